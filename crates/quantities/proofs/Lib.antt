@@ -1,0 +1,5 @@
+pub mod Ring
+pub mod SumLaws
+pub mod Floors
+pub mod Bounds
+pub mod Carrying

@@ -1,0 +1,5 @@
+pub mod Exact
+pub mod Sums
+pub mod Rounding
+pub mod Views
+pub mod Worked
