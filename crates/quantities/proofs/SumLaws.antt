@@ -7,10 +7,11 @@ use native.Mathlib.Omega.{arith}
 use mathlib.Core.Path.{_≡_, refl, sym, ap, _∙_}
 use mathlib.Core.List.{List, [], _∷_, _++_}
 use lib.IntN.{ℤ, pos, _+ℤ_, _-ℤ_, _*ℤ_, *ℤ-comm, *ℤ-zero, zero-*ℤ}
-use lib.ListN.{length}
+use lib.ListN.{length, getD, drop}
 use borrow.Author.Differences.{ints}
 use Rattle.std.proofs.shelf.Counted.{getD-map-counting, length-map-counting}
 use Rattle.std.specs.shelf.Lists.{All}
+use Rattle.std.proofs.shelf.Lists.{at-drop-more, at-drop-all}
 use Rattle.std.proofs.shelf.Tests.{cases-lt}
 use Rattle.std.proofs.shelf.Ways.{tells}
 use Rattle.quantities.specs.Sums.{sum, sumℕ, sum-of, count-of, same, at, atℕ, row-of}
@@ -155,6 +156,13 @@ module _ {A : Type 0} where
       let here : f x ≡ g x = e x (h .0) in
       let rest = sum-of-same P f g e xs (h .1) in
       omega (arith, ints)
+
+  -- what is left of a list when one more element is read, and at its end
+  pub sum-of-left : (f : A → ℤ) (xs : List A) (i : ℕ) (x : A) → i < length xs → x ≡ getD xs i x → sum-of f (drop i xs) ≡ f x +ℤ sum-of f (drop (i + 1) xs)
+  sum-of-left f xs i x h e = at-drop-more (sum-of f) xs i x h ∙ ap (λ y. f y +ℤ sum-of f (drop (i + 1) xs)) (sym e)
+
+  pub sum-of-none-left : (f : A → ℤ) (xs : List A) (i : ℕ) → length xs ≤ i → sum-of f (drop i xs) ≡ pos 0
+  sum-of-none-left f xs i h = at-drop-all (sum-of f) xs i h
 
   -- a sum over indices and one over a list change places
   pub sum-of-swap : (n : ℕ) (f : ℕ → A → ℤ) (xs : List A) → sum n (λ i. sum-of (f i) xs) ≡ sum-of (λ x. sum n (λ i. f i x)) xs

@@ -3,6 +3,7 @@ pub mod kinds;
 mod products;
 mod quantity;
 mod rounding;
+mod totals;
 mod worked;
 
 pub use kinds::Cents;
@@ -19,5 +20,6 @@ pub use kinds::MegawattsQuantity;
 pub use kinds::ShadowPrice;
 pub use quantity::Quantity;
 pub use rounding::carry;
+pub use totals::total;
 pub use worked::WorkedCents;
 pub use worked::worked_cents;
