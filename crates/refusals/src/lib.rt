@@ -1,7 +1,13 @@
 // Why a call is refused: the cause, the number by which it is answered, and the layer that refuses.
 ghost use Prim.Native.Nat.{ℕ};
 ghost use mathlib.Core.Path.{_≡_};
+ghost use mathlib.Core.List.{_++_};
+ghost use lib.Chars.{codes};
+ghost use Rattle.std.specs.Written.{decimal};
+ghost use Rattle.std.specs.declared.option.Option.the-variants.{Some};
 ghost use Rattle.refusals.specs.Causes.{layer, layer-number, number};
+use std::error::Error;
+use std::fmt;
 
 // A refusal has one cause. Of several that hold, the one with the smallest number is answered.
 #[derive(Clone, Copy, PartialEq, Eq, Debug)]
@@ -98,3 +104,14 @@ impl Layer {
         }
     }
 }
+
+pub impl fmt::Display for Cause as CauseDisplay {
+    ghost shown = { λ c. Some (codes "refused by " ++ decimal (number c)) };
+
+    fn fmt<W: fmt::Write>(&self, f: &mut fmt::Formatter<W>) -> fmt::Result {
+        let number = self.number();
+        write!(f, "refused by {number}")
+    }
+}
+
+pub impl Error for Cause as CauseError {}
