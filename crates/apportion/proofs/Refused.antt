@@ -28,9 +28,10 @@ sum-clear ws h k c (no-weight e) = omega arith
 sum-clear ws h k c (too-much l) = omega arith
 
 pub sum-some : (ws : List ℕ) → Clear (Sum-refused ws) → (0 < whole ws) × (whole ws ≤ 2000000000)
-sum-some ws none =
-    (⊎-elim (λ (l : 0 < whole ws). l) (λ (g : whole ws ≤ 0). absurd (none WeightOutOfRange (no-weight (omega arith)))) (cases-lt 0 (whole ws)),
-    ⊎-elim (λ (l : 2000000000 < whole ws). absurd (none WeightOutOfRange (too-much l))) (λ (g : whole ws ≤ 2000000000). g) (cases-lt 2000000000 (whole ws)))
+sum-some ws none = (
+  ⊎-elim (λ (l : 0 < whole ws). l) (λ (g : whole ws ≤ 0). absurd (none WeightOutOfRange (no-weight (omega arith)))) (cases-lt 0 (whole ws)),
+  ⊎-elim (λ (l : 2000000000 < whole ws). absurd (none WeightOutOfRange (too-much l))) (λ (g : whole ws ≤ 2000000000). g) (cases-lt 2000000000 (whole ws)),
+)
 
 length-least : (places : ℕ) (ws : List ℕ) (d : Cause) → Split-refused places ws d → 12 ≤ number d
 length-least places ws d (other-length n) = lit≤ tt

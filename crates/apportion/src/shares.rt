@@ -21,7 +21,11 @@ use refusals::Cause;
 const MAX_WEIGHT_SUM: u64 = 2_000_000_000;
 
 // Splits the amount over the items by their weights, one place of the row for each item. A refusal leaves the row as it was.
-pub fn split<Q: Quantity, I: WeightedItem>(amount: Q, items: &[I], row: &mut [Q]) -> Result<(), Cause>
+pub fn split<Q: Quantity, I: WeightedItem>(
+    amount: Q,
+    items: &[I],
+    row: &mut [Q],
+) -> Result<(), Cause>
     ensures answer { λ r. ⌜ Answered (Split-refused (length (now (row .entry))) (map (I·WeightedItem .weighs) (now (items .entry)))) r ⌝ }
     ensures places { λ r. ⌜ Cases r (λ _. map (Q·Quantity .units) (now (row .exit)) ≡ shares (Q·Quantity .units amount) (map (I·WeightedItem .weighs) (now (items .entry)))) (λ _. now (row .exit) ≡ now (row .entry)) ⌝ }
     ensures fair { λ r. ⌜ made r (λ _. Fair (Q·Quantity .units amount) (length (now (items .entry))) (atℕ (map (I·WeightedItem .weighs) (now (items .entry)))) (at (map (Q·Quantity .units) (now (row .exit))))) ⌝ }
@@ -61,7 +65,10 @@ fn fill<Q: Quantity, I: WeightedItem>(amount: Q, items: &[I], sum: u64, row: &mu
     requires most { ⌜ sum ≤ 2000000000 ⌝ }
     ensures { λ _. ⌜ map (Q·Quantity .units) (now (row .exit)) ≡ shares (Q·Quantity .units amount) (map (I·WeightedItem .weighs) (now (items .entry))) ⌝ }
 {
-    let mut before = Running { weight: 0, amount: 0 };
+    let mut before = Running {
+        weight: 0,
+        given: 0,
+    };
     for (i, item) in items.iter().enumerate() {
         let after = before.with(item.weight(), amount.units(), sum);
         row[i] = Q::from_units(after.since(before));
@@ -73,31 +80,38 @@ fn fill<Q: Quantity, I: WeightedItem>(amount: Q, items: &[I], sum: u64, row: &mu
 #[derive(Clone, Copy)]
 struct Running {
     weight: u64,
-    amount: i64,
+    given: i64,
 }
 
 impl Running {
     // One item more of an amount that is split over `sum`.
-    fn with(self, weight: u64, amount: i64, sum: u64) -> Running
+    fn with(self, item: u64, amount: i64, sum: u64) -> Running
         requires some { ⌜ 0 < sum ⌝ }
         requires most { ⌜ sum ≤ 2000000000 ⌝ }
-        requires within { ⌜ self .weight + weight ≤ sum ⌝ }
-        ensures weight { λ r. ⌜ r .weight ≡ self .weight + weight ⌝ }
-        ensures given { λ r. ⌜ r .amount ≡ floor (amount *ℤ pos (self .weight + weight)) sum ⌝ }
+        requires within { ⌜ self .weight + item ≤ sum ⌝ }
+        ensures weight { λ r. ⌜ r .weight ≡ self .weight + item ⌝ }
+        ensures given { λ r. ⌜ r .given ≡ floor (amount *ℤ pos (self .weight + item)) sum ⌝ }
     {
-        let up_to = self.weight + weight;
-        let quotient = (i128::from(amount) * i128::from(up_to)).div_euclid(i128::from(sum));
-        Running {
-            weight: up_to,
-            amount: quotient as i64,
-        }
+        let weight = self.weight + item;
+        let given = up_to(amount, weight, sum);
+        Running { weight, given }
     }
 
     // What was given since then.
     fn since(self, before: Running) -> i64
-        requires { ⌜ SFits w64 (self .amount -ℤ before .amount) ⌝ }
-        ensures { λ r. ⌜ r ≡ self .amount -ℤ before .amount ⌝ }
+        requires { ⌜ SFits w64 (self .given -ℤ before .given) ⌝ }
+        ensures { λ r. ⌜ r ≡ self .given -ℤ before .given ⌝ }
     {
-        self.amount - before.amount
+        self.given - before.given
     }
+}
+
+// What items of this weight together get, rounded down.
+fn up_to(amount: i64, weight: u64, sum: u64) -> i64
+    requires some { ⌜ 0 < sum ⌝ }
+    requires most { ⌜ sum ≤ 2000000000 ⌝ }
+    requires within { ⌜ weight ≤ sum ⌝ }
+    ensures { λ r. ⌜ r ≡ floor (amount *ℤ pos weight) sum ⌝ }
+{
+    (i128::from(amount) * i128::from(weight)).div_euclid(i128::from(sum)) as i64
 }

@@ -48,9 +48,18 @@ pub fn worked_splits() -> Result<WorkedSplits, Cause>
     let mut six = [Cents(0); 4];
     split(Cents(6), &four, &mut six)?;
     let members = [
-        AreaMember { bus: 0, share: 3_333 },
-        AreaMember { bus: 1, share: 3_333 },
-        AreaMember { bus: 2, share: 3_334 },
+        AreaMember {
+            bus: 0,
+            share: 3_333,
+        },
+        AreaMember {
+            bus: 1,
+            share: 3_333,
+        },
+        AreaMember {
+            bus: 2,
+            share: 3_334,
+        },
     ];
     let mut area = [Megawatts(0); 3];
     split(Megawatts(10), &members, &mut area)?;

@@ -34,8 +34,8 @@ pub carried-fits : (s a : ℤ) → SFits w64 a → SFits w64 (floor (s +ℤ a) 1
 carried-fits s a f =
     let p : Parted a (floor a 10000) 10000 _ = floor-parts a 10000 (lit< tt) in
     elim (floor-sum s a 10000 (lit< tt)) [
-      inl e ↦ omega (arith, ints, p .whole, p .rest, e)
-    | inr e ↦ omega (arith, ints, p .whole, p .rest, e)
+      | inl e ↦ omega (arith, ints, p .whole, p .rest, e)
+      | inr e ↦ omega (arith, ints, p .whole, p .rest, e)
     ]
 
 -- a quotient as code computes it: x and y are what its operands came to, z and w what they stand for

@@ -93,6 +93,6 @@ floor-sum y z w h =
     let r = floorMod y w in
     let s = floorMod z w in
     elim (leb-tells w (r + s)) [
-      inl over ↦ inr (floor-unique _ _ w (r + s - w) h (parted-over y z _ _ w r s a b (over .1) (omega (arith, a .rest, b .rest, over .1))))
-    | inr under ↦ inl (floor-unique _ _ w (r + s) h (parted-sum y z _ _ w r s a b (under .1)))
+      | inl over ↦ inr (floor-unique _ _ w (r + s - w) h (parted-over y z _ _ w r s a b (over .1) (omega (arith, a .rest, b .rest, over .1))))
+      | inr under ↦ inl (floor-unique _ _ w (r + s) h (parted-sum y z _ _ w r s a b (under .1)))
     ]

@@ -28,5 +28,8 @@ pub fn worked_cents() -> Result<WorkedCents, Cause>
     carry(&[Grains(15_000), Grains(15_000)], &mut one_and_a_half_twice)?;
     let mut half_below_nought = [Cents(0); 1];
     carry(&[Grains(-5_000)], &mut half_below_nought)?;
-    Ok(WorkedCents { one_and_a_half_twice, half_below_nought })
+    Ok(WorkedCents {
+        one_and_a_half_twice,
+        half_below_nought,
+    })
 }

@@ -35,19 +35,40 @@ fn split_congestion(rt: &LibcRuntime) -> Result<(), AnyError> {
     println!(rt, "1. A constraint's congestion, split over load buses")?;
     let price = ShadowPrice(-2_499);
     let flow = Flow(-1_233_100);
-    println!(rt, "   The constraint has a shadow price of {} cents per MWh.", price.0)?;
-    println!(rt, "   Its flow is {}, in thousandths of a tenth of a megawatt.", flow.0)?;
+    println!(
+        rt,
+        "   The constraint has a shadow price of {} cents per MWh.",
+        price.0
+    )?;
+    println!(
+        rt,
+        "   Its flow is {}, in thousandths of a tenth of a megawatt.",
+        flow.0
+    )?;
     let grains = match price.times_flow(flow) {
         Some(grains) => grains,
         None => return Err("the congestion does not fit 64 bits".into()),
     };
     let cents = grains.floor_to_cents();
-    println!(rt, "   Congestion is price times flow: {} grains, rounded down {} cents.", grains.0, cents.0)?;
-    println!(rt, "   A bus weighs the distance of its factor from the upstream factor, times its load.")?;
+    println!(
+        rt,
+        "   Congestion is price times flow: {} grains, rounded down {} cents.",
+        grains.0, cents.0
+    )?;
+    println!(
+        rt,
+        "   A bus weighs the distance of its factor from the upstream factor, times its load."
+    )?;
     let buses = [
         LoadBus { bus: 0, weight: 0 },
-        LoadBus { bus: 1, weight: 1_000_000 },
-        LoadBus { bus: 2, weight: 233_100 },
+        LoadBus {
+            bus: 1,
+            weight: 1_000_000,
+        },
+        LoadBus {
+            bus: 2,
+            weight: 233_100,
+        },
     ];
     let mut row = [Cents(0); 3];
     split(cents, &buses, &mut row)?;
@@ -62,9 +83,18 @@ fn split_area(rt: &LibcRuntime) -> Result<(), AnyError> {
     println!(rt, "   The area withdraws {} tenths of a megawatt.", load.0)?;
     println!(rt, "   A bus weighs its share, in hundredths of a percent.")?;
     let members = [
-        AreaMember { bus: 4, share: 3_333 },
-        AreaMember { bus: 5, share: 3_333 },
-        AreaMember { bus: 7, share: 3_334 },
+        AreaMember {
+            bus: 4,
+            share: 3_333,
+        },
+        AreaMember {
+            bus: 5,
+            share: 3_333,
+        },
+        AreaMember {
+            bus: 7,
+            share: 3_334,
+        },
     ];
     let mut row = [Megawatts(0); 3];
     split(load, &members, &mut row)?;
@@ -96,7 +126,11 @@ fn show_worked(rt: &LibcRuntime) -> Result<(), AnyError> {
     show_row(rt, "6 cents over 1, 1, 1, 1", &splits.six)?;
     show_row(rt, "10 tenths over 3333, 3333, 3334", &splits.area)?;
     let carried = worked_cents()?;
-    show_row(rt, "15000 grains and 15000 grains in cents", &carried.one_and_a_half_twice)?;
+    show_row(
+        rt,
+        "15000 grains and 15000 grains in cents",
+        &carried.one_and_a_half_twice,
+    )?;
     show_row(rt, "-5000 grains in cents", &carried.half_below_nought)
 }
 
@@ -108,13 +142,24 @@ fn show_shares<Q: Quantity, I: WeightedItem>(
     unit: &str,
 ) -> Result<(), AnyError> {
     for (item, share) in items.iter().zip(row.iter()) {
-        println!(rt, "   Bus {} weighs {} and gets {} {unit}.", item.bus(), item.weight(), share.units())?;
+        println!(
+            rt,
+            "   Bus {} weighs {} and gets {} {unit}.",
+            item.bus(),
+            item.weight(),
+            share.units()
+        )?;
     }
     Ok(())
 }
 
 // The sum of the shares beside the amount that was split.
-fn show_total<Q: Quantity>(rt: &LibcRuntime, amount: Q, row: &[Q], unit: &str) -> Result<(), AnyError> {
+fn show_total<Q: Quantity>(
+    rt: &LibcRuntime,
+    amount: Q,
+    row: &[Q],
+    unit: &str,
+) -> Result<(), AnyError> {
     let sum = match total(row) {
         Some(sum) => sum.units(),
         None => return Err("the shares do not fit 64 bits".into()),
@@ -122,7 +167,10 @@ fn show_total<Q: Quantity>(rt: &LibcRuntime, amount: Q, row: &[Q], unit: &str) -
     if sum != amount.units() {
         return Err("the shares do not add up".into());
     }
-    println!(rt, "   The shares add up to {sum} {unit}, the whole amount.")?;
+    println!(
+        rt,
+        "   The shares add up to {sum} {unit}, the whole amount."
+    )?;
     Ok(())
 }
 

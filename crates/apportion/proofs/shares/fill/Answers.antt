@@ -33,16 +33,16 @@ with-after-requires g c κs =
     record { some = c .pre .some; most = c .pre .most; within = omega arith }
 
 -- the weights up to and with the item, within the sum, and what is given up to there
-record Up-to (A : ℤ) (p q W : ℕ) (weight : ℕ) (amount : ℤ) : Type 0 where
+record Up-to (A : ℤ) (p q W : ℕ) (weight : ℕ) (given : ℤ) : Type 0 where
   grown : p ≤ q
   within : q ≤ W
   weight-is : weight ≡ q
-  amount-is : amount ≡ floor (A *ℤ pos q) W
+  given-is : given ≡ floor (A *ℤ pos q) W
   fits : SFits w64 A
 
 up-to : (g : given.Over) (c : need.After-with-after g) →
-  let ws = map (g .I·WeightedItem .weighs) (c .args .items .now) in
-  Up-to (g .Q·Quantity .units (c .args .amount)) (sumℕ (c .loop-i .i) (atℕ ws)) (sumℕ (c .loop-i .i + 1) (atℕ ws)) (c .args .sum) (c .with-after .result .weight) (c .with-after .result .amount)
+    let ws = map (g .I·WeightedItem .weighs) (c .args .items .now) in
+    Up-to (g .Q·Quantity .units (c .args .amount)) (sumℕ (c .loop-i .i) (atℕ ws)) (sumℕ (c .loop-i .i + 1) (atℕ ws)) (c .args .sum) (c .with-after .result .weight) (c .with-after .result .given)
 up-to g c =
     let f = g .I·WeightedItem .weighs in
     let A = g .Q·Quantity .units (c .args .amount) in
@@ -61,7 +61,7 @@ up-to g c =
       grown = omega arith;
       within = omega arith;
       weight-is = c .with-after .ensures .weight ∙ weight;
-      amount-is = c .with-after .ensures .given ∙ ap (λ z. floor (z *ℤ pos (c .loop-i .before .weight + c .weight .result)) W) whole-amount ∙ ap (λ k. floor (A *ℤ pos k) W) weight;
+      given-is = c .with-after .ensures .given ∙ ap (λ z. floor (z *ℤ pos (c .loop-i .before .weight + c .weight .result)) W) whole-amount ∙ ap (λ k. floor (A *ℤ pos k) W) weight;
       fits = subst (SFits w64) (c .units .ensures) small;
     }
 
@@ -73,7 +73,7 @@ since-requires g c κs =
     let q = sumℕ (c .loop-i .i + 1) (atℕ ws) in
     let W = c .args .sum in
     let h = up-to g c in
-    let same = ap (λ z. z -ℤ c .loop-i .before .amount) (h .amount-is) ∙ ap (λ z. floor (A *ℤ pos q) W -ℤ z) (c .loop-i .inv .1) in
+    let same = ap (λ z. z -ℤ c .loop-i .before .given) (h .given-is) ∙ ap (λ z. floor (A *ℤ pos q) W -ℤ z) (c .loop-i .inv .1) in
     subst (SFits w64) (sym same) (between-fits w64 A W p q (h .fits) (c .pre .some) (h .grown) (h .within))
 
 pub offset-row-i : need.offset-row-i
@@ -94,12 +94,12 @@ loop-i-again g c =
     let h = up-to g (need.at·loop-i-again g c .After-with-after) in
     let small : SFits w64 (c .since .result) = search needs in
     let given : u new ≡ floor (A *ℤ pos q) W -ℤ floor (A *ℤ pos p) W =
-      c .from-units .ensures ∙ toZ-ofZ w64 (c .since .result) small ∙ c .since .ensures ∙ ap (λ z. z -ℤ c .loop-i .before .amount) (h .amount-is) ∙ ap (λ z. floor (A *ℤ pos q) W -ℤ z) (c .loop-i .inv .1) in
+    c .from-units .ensures ∙ toZ-ofZ w64 (c .since .result) small ∙ c .since .ensures ∙ ap (λ z. z -ℤ c .loop-i .before .given) (h .given-is) ∙ ap (λ z. floor (A *ℤ pos q) W -ℤ z) (c .loop-i .inv .1) in
     let value : u new ≡ share A (length ws) (atℕ ws) i =
-      given ∙ ap (λ k. floor (A *ℤ pos k) W -ℤ floor (A *ℤ pos p) W) (sumℕ-more i (atℕ ws)) ∙ ap (λ k. floor (A *ℤ pos (sumℕ (suc i) (atℕ ws))) k -ℤ floor (A *ℤ pos p) k) (c .pre .sum) in
+    given ∙ ap (λ k. floor (A *ℤ pos k) W -ℤ floor (A *ℤ pos p) W) (sumℕ-more i (atℕ ws)) ∙ ap (λ k. floor (A *ℤ pos (sumℕ (suc i) (atℕ ws))) k -ℤ floor (A *ℤ pos p) k) (c .pre .sum) in
     let room : i < length (map u row) = rw length-map (omega arith) in
     let put : map u (set row i new) ≡ set (map u row) i (share A (length ws) (atℕ ws) i) = map-set u row i new ∙ ap (λ z. set (map u row) i z) value in
-    (h .weight-is, h .amount-is, λ k l. ap (λ zs. at zs k) put ∙ fill-by-more (share A (length ws) (atℕ ws)) (map u row) i (pos 0) room (c .loop-i .inv .2) k l)
+    (h .weight-is, h .given-is, λ k l. ap (λ zs. at zs k) put ∙ fill-by-more (share A (length ws) (atℕ ws)) (map u row) i (pos 0) room (c .loop-i .inv .2) k l)
 
 pub returns : need.returns
 returns g c =

@@ -13,5 +13,5 @@ Inv-loop-i g l =
     let A = g .Q·Quantity .units (l .amount) in
     let ws = map (g .I·WeightedItem .weighs) (l .items) in
     (l .before .weight ≡ sumℕ (l .i) (atℕ ws))
-    × (l .before .amount ≡ floor (A *ℤ pos (sumℕ (l .i) (atℕ ws))) (l .sum))
+    × (l .before .given ≡ floor (A *ℤ pos (sumℕ (l .i) (atℕ ws))) (l .sum))
     × ((k : ℕ) → k < l .i → at (map (g .Q·Quantity .units) (l .row)) k ≡ share A (length ws) (atℕ ws) k)

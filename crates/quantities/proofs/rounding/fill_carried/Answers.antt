@@ -55,7 +55,7 @@ loop-k-again c =
     let up : c .loop-k .before .exact +ℤ x ≡ sum (k + 1) g = omega (arith, ints) in
     let given : c .with-after .result .given ≡ floor (sum (k + 1) g) 10000 = c .with-after .ensures .given ∙ ap (λ z. floor z 10000) up in
     let value : c .since .result .0 ≡ carried 10000 g k =
-      c .since .ensures ∙ ap (λ z. z -ℤ c .loop-k .before .given) given ∙ ap (λ z. floor (sum (k + 1) g) 10000 -ℤ z) (c .loop-k .inv .1) ∙ ap (λ z. floor z 10000 -ℤ floor (sum k g) 10000) more in
+    c .since .ensures ∙ ap (λ z. z -ℤ c .loop-k .before .given) given ∙ ap (λ z. floor (sum (k + 1) g) 10000 -ℤ z) (c .loop-k .inv .1) ∙ ap (λ z. floor z 10000 -ℤ floor (sum k g) 10000) more in
     let room : k < length (cents row) = rw length-map (omega arith) in
     let put : cents (set row k (c .since .result)) ≡ set (cents row) k (carried 10000 g k) = map-set (λ (y : Cents). y .0) row k (c .since .result) ∙ ap (λ z. set (cents row) k z) value in
     (exact, given, omega (arith, ints), λ i l. ap (λ zs. at zs i) put ∙ fill-by-more (carried 10000 g) (cents row) k (pos 0) room (c .loop-k .inv .3) i l)
