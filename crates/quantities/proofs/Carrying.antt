@@ -2,13 +2,13 @@
 use mathlib.Core.List.{List, [], _∷_}
 use mathlib.Core.Logic.{_⊎_, inl, inr}
 use mathlib.Core.Path.{_≡_, refl, sym, ap, subst, _∙_}
-use Prim.Native.Nat.{ℕ, suc, _+_, _/_, _<_}
+use Prim.Native.Nat.{ℕ, suc, _+_, _*_, _/_, _^_, _<_, _≤_}
 use native.Mathlib.Nat.{zero-div}
 use native.Mathlib.Numerals.{add-one}
 use native.Mathlib.Omega.{arith}
 use borrow.Author.Differences.{ints}
 use lib.Dec.{lit<}
-use lib.IntN.{ℤ, pos, _+ℤ_, _-ℤ_}
+use lib.IntN.{ℤ, pos, _+ℤ_, _-ℤ_, natAbs}
 use lib.ListN.{length}
 use mir.Syntax.{w64}
 use mir.Val.{SFits}
@@ -41,3 +41,10 @@ carried-fits s a f =
 -- a quotient as code computes it: x and y are what its operands came to, z and w what they stand for
 pub euclid-is : {x y q : ℤ} (z : ℤ) (w : ℕ) → q ≡ divEuclid x y → x ≡ z → y ≡ pos w → q ≡ floor z w
 euclid-is {x} {y} z w h e f = h ∙ ap (λ v. divEuclid v y) e ∙ ap (λ v. divEuclid z v) f ∙ euclid-floor z w
+
+-- the sums of so many amounts in 64 bits
+pub within-more : (s a r : ℤ) (k : ℕ) → natAbs s ≤ k * 2 ^ 63 → SFits w64 a → r ≡ s +ℤ a → natAbs r ≤ (k + 1) * 2 ^ 63
+within-more s a r k h f e = omega (arith, ints)
+
+pub within-room : (s : ℤ) (k n : ℕ) → natAbs s ≤ k * 2 ^ 63 → k < n → n < 2 ^ 64 → natAbs s + 2 ^ 63 < 2 ^ 127
+within-room s k n h l f = omega arith

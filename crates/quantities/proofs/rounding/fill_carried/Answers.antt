@@ -17,13 +17,13 @@ use Rattle.quantities.specs.Sums.{sum, at}
 use Rattle.quantities.specs.Rounding.{floor, carried}
 use Rattle.quantities.specs.Views.{cents, grains}
 use Rattle.quantities.proofs.SumLaws.{sum-more}
-use Rattle.quantities.proofs.Carrying.{carried-fits}
+use Rattle.quantities.proofs.Carrying.{carried-fits, within-more, within-room}
 use Rattle.quantities.proofs.rounding.fill_carried.Needs as need
 
 pub with-after-requires : need.with-after-requires
 with-after-requires c κs =
     let few : length (c .args .exact .now) < 2 ^ 64 = search needs in
-    omega (arith, ints)
+    within-room (c .loop-k .before .exact) (c .loop-k .k) (length (c .args .exact .now)) (c .loop-k .inv .2) (c .loop-k-test .taken) few
 
 -- the amount at k, as the definition reads it
 here : (xs : List Grains) (k : ℕ) → k < length xs → getD xs k (record { 0 = pos 0 }) .0 ≡ at (grains xs) k
@@ -51,14 +51,14 @@ loop-k-again c =
     let fits : SFits w64 x = c .with-after .ensures .near in
     let h = here xs k (c .loop-k-test .taken) in
     let more = sum-more k g in
-    let exact : c .with-after .result .exact ≡ sum (k + 1) g = omega (arith, ints) in
-    let up : c .loop-k .before .exact +ℤ x ≡ sum (k + 1) g = omega (arith, ints) in
+    let up : c .loop-k .before .exact +ℤ x ≡ sum (k + 1) g = ap (λ z. z +ℤ x) (c .loop-k .inv .0) ∙ ap (λ z. sum k g +ℤ z) h ∙ sym more in
+    let exact : c .with-after .result .exact ≡ sum (k + 1) g = c .with-after .ensures .exact ∙ up in
     let given : c .with-after .result .given ≡ floor (sum (k + 1) g) 10000 = c .with-after .ensures .given ∙ ap (λ z. floor z 10000) up in
     let value : c .since .result .0 ≡ carried 10000 g k =
     c .since .ensures ∙ ap (λ z. z -ℤ c .loop-k .before .given) given ∙ ap (λ z. floor (sum (k + 1) g) 10000 -ℤ z) (c .loop-k .inv .1) ∙ ap (λ z. floor z 10000 -ℤ floor (sum k g) 10000) more in
     let room : k < length (cents row) = rw length-map (omega arith) in
     let put : cents (set row k (c .since .result)) ≡ set (cents row) k (carried 10000 g k) = map-set (λ (y : Cents). y .0) row k (c .since .result) ∙ ap (λ z. set (cents row) k z) value in
-    (exact, given, omega (arith, ints), λ i l. ap (λ zs. at zs i) put ∙ fill-by-more (carried 10000 g) (cents row) k (pos 0) room (c .loop-k .inv .3) i l)
+    (exact, given, within-more (c .loop-k .before .exact) x (c .with-after .result .exact) k (c .loop-k .inv .2) fits (c .with-after .ensures .exact), λ i l. ap (λ zs. at zs i) put ∙ fill-by-more (carried 10000 g) (cents row) k (pos 0) room (c .loop-k .inv .3) i l)
 
 pub returns : need.returns
 returns c =
