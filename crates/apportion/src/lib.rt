@@ -1,8 +1,6 @@
 // Splitting an amount over weighted items.
 mod items;
 mod shares;
-#[cfg(test)]
-mod tests;
 mod worked;
 
 pub use items::AreaMember;
