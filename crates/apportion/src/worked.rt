@@ -30,21 +30,12 @@ pub fn worked_splits() -> Result<WorkedSplits, Cause>
     ensures figures { λ r. ⌜ Cases r Worked-rows (λ _. ⊥) ⌝ }
     ensures defined { λ _. ⌜ Worked-splits ⌝ }
 {
-    let three = [
-        LoadBus { bus: 0, weight: 1 },
-        LoadBus { bus: 1, weight: 1 },
-        LoadBus { bus: 2, weight: 1 },
-    ];
+    let three = [LoadBus { bus: 0, weight: 1 }; 3];
     let mut hundred = [Cents(0); 3];
     split(Cents(100), &three, &mut hundred)?;
     let mut hundred_below_nought = [Cents(0); 3];
     split(Cents(-100), &three, &mut hundred_below_nought)?;
-    let four = [
-        LoadBus { bus: 0, weight: 1 },
-        LoadBus { bus: 1, weight: 1 },
-        LoadBus { bus: 2, weight: 1 },
-        LoadBus { bus: 3, weight: 1 },
-    ];
+    let four = [LoadBus { bus: 0, weight: 1 }; 4];
     let mut six = [Cents(0); 4];
     split(Cents(6), &four, &mut six)?;
     let members = [
