@@ -2,4 +2,3 @@ pub mod Exact
 pub mod Sums
 pub mod Rounding
 pub mod Views
-pub mod Worked

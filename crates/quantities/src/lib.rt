@@ -1,10 +1,10 @@
-// The quantities of a settlement, each a type of its own; the products between them; and cents from grains.
+// The quantities of a settlement, each a type of its own; the products between them; cents from grains; and the
+// one kit of sums and floors.
 pub mod kinds;
 mod products;
 mod quantity;
 mod rounding;
 mod totals;
-mod worked;
 
 pub use kinds::Cents;
 pub use kinds::CentsQuantity;
@@ -19,7 +19,5 @@ pub use kinds::Megawatts;
 pub use kinds::MegawattsQuantity;
 pub use kinds::ShadowPrice;
 pub use quantity::Quantity;
-pub use rounding::carry;
+pub use rounding::GRAINS_PER_CENT;
 pub use totals::total;
-pub use worked::WorkedCents;
-pub use worked::worked_cents;

@@ -1,10 +1,10 @@
 use mathlib.Core.Path.{ap, _∙_}
 use native.Mathlib.Omega.{arith}
 use borrow.Author.Needs.{needs}
 use Rattle.quantities.specs.Sums.{sum-of}
 use Rattle.quantities.specs.Views.{grains}
 use Rattle.quantities.proofs.Carrying.{carried-row-adds}
-use Rattle.quantities.proofs.rounding.carry.Needs as need
+use Rattle.carried_cents.proofs.carry.Needs as need
 
 pub returns : need.returns
 returns c =

@@ -3,12 +3,11 @@ ghost use mathlib.Core.List.{[], _∷_};
 ghost use mathlib.Core.Path.{_≡_};
 ghost use lib.IntN.{pos, negsuc};
 ghost use Rattle.std.specs.Results.{Cases};
-ghost use Rattle.quantities.specs.Rounding.{carried-row};
 ghost use Rattle.quantities.specs.Views.{cents};
-ghost use Rattle.quantities.specs.Worked.{Worked-cents};
-use crate::kinds::Cents;
-use crate::kinds::Grains;
-use crate::rounding::carry;
+ghost use Rattle.carried_cents.specs.Worked.{Worked-cents};
+use crate::carry;
+use quantities::Cents;
+use quantities::Grains;
 use refusals::Cause;
 
 #[derive(Clone, Copy)]

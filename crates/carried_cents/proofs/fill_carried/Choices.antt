@@ -1,10 +1,10 @@
 use Prim.Native.Nat.{ℕ, _*_, _^_, _≤_, _<_}
 use mathlib.Core.Path.{_≡_}
 use lib.IntN.{natAbs}
 use Rattle.quantities.specs.Sums.{sum, at}
 use Rattle.quantities.specs.Rounding.{floor, carried}
 use Rattle.quantities.specs.Views.{cents, grains}
-use Rattle.quantities.proofs.rounding.fill_carried.Given as given
+use Rattle.carried_cents.proofs.fill_carried.Given as given
 
 abbrev pub Inv-loop-k : given.InvT-loop-k
 Inv-loop-k l =

@@ -5,8 +5,8 @@ use lib.IntN.{ℤ, pos, _+ℤ_}
 use mir.Syntax.{w64, w128}
 use mir.Val.{SFits, toZ, ofZ}
 use Rattle.std.proofs.shelf.Signed.{ints}
 use Rattle.quantities.proofs.Carrying.{euclid-is}
-use Rattle.quantities.proofs.rounding.Running.with.Needs as need
+use Rattle.carried_cents.proofs.Running.with.Needs as need
 
 pub returns : need.returns
 returns c =

@@ -11,14 +11,14 @@ use Rattle.std.proofs.shelf.Counted.{fill-by-all}
 use Rattle.std.proofs.shelf.Edits.{fill-by-more}
 use Rattle.std.proofs.shelf.Lists.{getD-map, length-map, map-set}
 use Rattle.std.proofs.shelf.Signed.{ints}
 use Rattle.quantities.specs.declared.kinds.Cents.{Cents}
 use Rattle.quantities.specs.declared.kinds.Grains.{Grains}
 use Rattle.quantities.specs.Sums.{sum, at}
 use Rattle.quantities.specs.Rounding.{floor, carried}
 use Rattle.quantities.specs.Views.{cents, grains}
 use Rattle.quantities.proofs.SumLaws.{sum-more}
 use Rattle.quantities.proofs.Carrying.{carried-fits, within-more, within-room}
-use Rattle.quantities.proofs.rounding.fill_carried.Needs as need
+use Rattle.carried_cents.proofs.fill_carried.Needs as need
 
 pub with-after-requires : need.with-after-requires
 with-after-requires c κs =
@@ -64,6 +64,6 @@ pub returns : need.returns
 returns c =
     let xs = c .args .exact .now in
     let row = c .loop-k .row in
-    let long : length (cents row) ≡ length (grains xs) = rw (length-map, length-map) (omega arith) in
+    let long : length (cents row) ≡ length (grains xs) = length-map row (λ (y : Cents). y .0) ∙ (let e : length row ≡ length xs = omega arith in e) ∙ sym (length-map xs (λ (y : Grains). y .0)) in
     let end : length (grains xs) ≤ c .loop-k .k = rw length-map (omega arith) in
     fill-by-all (carried 10000 (at (grains xs))) (cents row) (length (grains xs)) (pos 0) long (λ i l. c .loop-k .inv .3 i (omega arith))

@@ -1,0 +1,64 @@
+// How figures are told.
+use apportion::WeightedItem;
+use quantities::Quantity;
+use quantities::total;
+use std::error::AnyError;
+
+pub fn say(rt: &LibcRuntime, text: &str) -> Result<(), AnyError> {
+    println!(rt, "{text}")?;
+    Ok(())
+}
+
+// A number with its unit.
+pub fn figure(rt: &LibcRuntime, what: &str, number: i64, unit: &str) -> Result<(), AnyError> {
+    println!(rt, "   {what}: {number} {unit}")?;
+    Ok(())
+}
+
+// Each item's bus and weight, and its share.
+pub fn shares<Q: Quantity, I: WeightedItem>(
+    rt: &LibcRuntime,
+    items: &[I],
+    row: &[Q],
+    unit: &str,
+) -> Result<(), AnyError> {
+    for (item, share) in items.iter().zip(row.iter()) {
+        println!(
+            rt,
+            "   bus {} weighs {} and gets {} {unit}",
+            item.bus(),
+            item.weight(),
+            share.units()
+        )?;
+    }
+    Ok(())
+}
+
+// The sum of the shares beside the amount that was split.
+pub fn sum<Q: Quantity>(
+    rt: &LibcRuntime,
+    amount: Q,
+    row: &[Q],
+    unit: &str,
+) -> Result<(), AnyError> {
+    let Some(sum) = total(row) else {
+        return Err("the shares do not fit 64 bits".into());
+    };
+    if sum.units() != amount.units() {
+        return Err("the shares do not add up".into());
+    }
+    figure(
+        rt,
+        "the shares add up to the whole amount",
+        sum.units(),
+        unit,
+    )
+}
+
+pub fn row<Q: Quantity>(rt: &LibcRuntime, what: &str, row: &[Q]) -> Result<(), AnyError> {
+    print!(rt, "   {what}:")?;
+    for quantity in row {
+        print!(rt, " {}", quantity.units())?;
+    }
+    say(rt, "")
+}
