@@ -10,6 +10,7 @@ use carried_cents::worked_cents;
 use quantities::Cents;
 use quantities::CentsQuantity;
 use quantities::Flow;
+use quantities::GrainsQuantity;
 use quantities::Megawatts;
 use quantities::MegawattsQuantity;
 use quantities::ShadowPrice;
@@ -98,10 +99,8 @@ pub fn worked(rt: &LibcRuntime) -> Result<(), AnyError> {
     show::row(rt, "6 cents over 1, 1, 1, 1", &splits.six)?;
     show::row(rt, "10 tenths over 3333, 3333, 3334", &splits.area)?;
     let carried = worked_cents()?;
-    show::row(
-        rt,
-        "15000 grains and 15000 grains in cents",
-        &carried.one_and_a_half_twice,
-    )?;
-    show::row(rt, "-5000 grains in cents", &carried.half_below_nought)
+    show::row(rt, "exact grains", &carried.twice)?;
+    show::row(rt, "carried to cents", &carried.twice_in_cents)?;
+    show::row(rt, "exact grains", &carried.below_nought)?;
+    show::row(rt, "carried to cents", &carried.below_nought_in_cents)
 }
