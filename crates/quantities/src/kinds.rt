@@ -2,7 +2,7 @@
 use crate::quantity::Quantity;
 
 // Whole tenths of a megawatt. Withdrawals are above nought, injections below.
-#[derive(Clone, Copy, PartialEq, Eq, Debug)]
+#[derive(Clone, Copy)]
 pub struct Megawatts(pub i64);
 
 // A distribution factor: whole thousandths.
@@ -61,29 +61,5 @@ pub impl Quantity for Cents as CentsQuantity {
 
     fn from_units(count: i64) -> Cents {
         Cents(count)
-    }
-}
-
-pub impl Quantity for CongestionPrice as CongestionPriceQuantity {
-    ghost units = { λ x. x .0 };
-
-    fn units(self) -> i64 {
-        self.0
-    }
-
-    fn from_units(count: i64) -> CongestionPrice {
-        CongestionPrice(count)
-    }
-}
-
-pub impl Quantity for Flow as FlowQuantity {
-    ghost units = { λ x. x .0 };
-
-    fn units(self) -> i64 {
-        self.0
-    }
-
-    fn from_units(count: i64) -> Flow {
-        Flow(count)
     }
 }

@@ -2,7 +2,7 @@
 // cents/1,000 × 1/10 = 1/10,000 of a cent.
 ghost use mathlib.Core.Path.{_≡_};
 ghost use lib.IntN.{ℤ, pos, _-ℤ_, _*ℤ_, negℤ, natAbs};
-ghost use Rattle.quantities.specs.Exact.{Exact, Exact16};
+ghost use Rattle.quantities.specs.Exact.{Exact};
 use crate::kinds::CongestionPrice;
 use crate::kinds::Factor;
 use crate::kinds::Flow;
@@ -64,16 +64,6 @@ impl Factor {
     {
         match i64::from(self.0).checked_mul(megawatts.0) {
             Some(product) => Some(Flow(product)),
-            None => None,
-        }
-    }
-
-    // The factor seen from a bus of factor `reference`, or None where it does not fit 16 bits.
-    pub fn seen_from(self, reference: Factor) -> Option<Factor>
-        ensures { λ r. ⌜ Exact16 (λ x. x .0) r (self .0 -ℤ reference .0) ⌝ }
-    {
-        match self.0.checked_sub(reference.0) {
-            Some(difference) => Some(Factor(difference)),
             None => None,
         }
     }
