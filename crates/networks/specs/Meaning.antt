@@ -24,6 +24,10 @@ pub record Within (w : Meaning) : Type 0 where
   pub factor-beyond-constraints : (j i : ℕ) → w .constraints ≤ j → w .factor j i ≡ pos 0
   pub factor-beyond-buses : (j i : ℕ) → w .buses ≤ i → w .factor j i ≡ pos 0
 
+-- two factors of one constraint, at any two buses
+abbrev pub Spread-most : Meaning → Type 0
+Spread-most w = (j i k : ℕ) → natAbs (w .factor j i -ℤ w .factor j k) ≤ most-spread
+
 -- what a tenth of a megawatt withdrawn at bus i for an hour is charged
 abbrev pub congestion-price : Meaning → ℕ → ℤ
 congestion-price w i = sum (w .constraints) (λ j. w .price j *ℤ w .factor j i)

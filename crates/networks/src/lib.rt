@@ -1,6 +1,7 @@
 // Networks: what one tells, the makes that there are, and the congestion price at a bus.
 mod network;
 mod prices;
+mod table;
 
 pub use network::MAX_BUSES;
 pub use network::MAX_CONSTRAINTS;
@@ -9,3 +10,5 @@ pub use network::MAX_SHADOW_PRICE;
 pub use network::MAX_SPREAD;
 pub use network::Network;
 pub use prices::congestion_price;
+pub use table::Table;
+pub use table::TableNetwork;

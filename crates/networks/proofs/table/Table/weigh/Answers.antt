@@ -1,0 +1,12 @@
+use borrow.Author.Needs.{needs}
+use Rattle.networks.specs.Tables.{Table-within}
+use Rattle.networks.proofs.TableLimits.{within-clear, outside-refused}
+use Rattle.networks.proofs.table.Table.weigh.Needs as need
+
+pub returns-then-within-limits : need.returns-then-within-limits
+returns-then-within-limits c =
+    let within : Table-within (c .args .buses) (c .args .prices .now) (c .args .factors .now) = search needs in
+    within-clear (c .args .buses) (c .args .prices .now) (c .args .factors .now) within
+
+pub returns-else-within-limits : need.returns-else-within-limits
+returns-else-within-limits c = outside-refused (c .args .buses) (c .args .prices .now) (c .args .factors .now) (search needs)
