@@ -1,3 +1,5 @@
 pub mod Limits
 pub mod Below
 pub mod TableLimits
+pub mod DescentLaws
+pub mod RadialLimits
