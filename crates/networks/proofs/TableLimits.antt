@@ -1,31 +1,30 @@
 -- A table is refused where it is outside the limits, and what is within them keeps to the limits of a network. Assumes nothing.
-use mathlib.Core.Bool.{cond, _&&_}
 use mathlib.Core.List.{List}
 use mathlib.Core.Logic.{_⊎_, inl, inr, ⊎-elim}
-use mathlib.Core.Path.{_≡_, refl, sym, ap, subst, _∙_}
-use Prim.Native.Nat.{ℕ, suc, _+_, _*_, _≤_, _<_}
+use mathlib.Core.Path.{_≡_, refl, ap, _∙_}
+use Prim.Native.Nat.{ℕ, _+_, _*_, _≤_, _<_}
 use native.Mathlib.Nat.{mul-le-mul-right, suc-mul}
 use native.Mathlib.Omega.{arith}
 use borrow.Author.Differences.{ints}
-use lib.Dec.{ltb, lit≤}
+use lib.Dec.{lit≤}
 use lib.IntN.{ℤ, pos, _-ℤ_, natAbs}
-use lib.ListN.{length, getD, take, drop}
+use lib.ListN.{length, drop}
 use Rattle.std.proofs.shelf.Lists.{getD-past, getD-take, getD-drop, length-take, length-take-le, length-drop}
 use Rattle.std.proofs.shelf.Tests.{cases-lt, cases-eq, lt-ltb, le-ltb, and-right, cond-false}
 use Rattle.refusals.specs.declared.Cause.{Cause}
 use Rattle.refusals.specs.declared.Cause.the-variants.{OutsideLimits}
-use Rattle.refusals.specs.Answers.{First, Clear}
+use Rattle.refusals.specs.Answers.{Clear}
 use Rattle.refusals.specs.Causes.{number}
 use Rattle.quantities.specs.declared.kinds.Factor.{Factor}
 use Rattle.quantities.specs.declared.kinds.ShadowPrice.{ShadowPrice}
 use Rattle.networks.specs.Limits.{most-buses, most-constraints, most-price, most-factor, most-spread}
-use Rattle.networks.specs.Meaning.{Meaning, Spread-most}
+use Rattle.networks.specs.Meaning.{Spread-most}
 use Rattle.networks.specs.Tables.{price-at, factor-at, table-meaning, Table-refused, no-bus, buses-over, constraints-over, price-over, other-length, factor-over, spread-over, factor-row, Prices-within, Factors-within, Rows-close, Table-within}
 use Rattle.networks.proofs.Below.{and-then, some-or-each, over-or-within}
 
 -- ---- the factors of one constraint
 
-pub row-at : (n : ℕ) (fs : List Factor) (j i : ℕ) → i < n → factor-at (factor-row n fs j) i ≡ factor-at fs (j * n + i)
+row-at : (n : ℕ) (fs : List Factor) (j i : ℕ) → i < n → factor-at (factor-row n fs j) i ≡ factor-at fs (j * n + i)
 row-at n fs j i h =
     ap (λ (f : Factor). f .0) (getD-take n (drop (j * n) fs) i (record { 0 = pos 0 }) h ∙ getD-drop (j * n) fs i (record { 0 = pos 0 }))
 
@@ -33,7 +32,7 @@ row-at n fs j i h =
 pub row-end : (n m j : ℕ) → j < m → j * n + n ≤ m * n
 row-end n m j h = let grow = mul-le-mul-right n h in omega (arith, grow, suc-mul j n)
 
-pub row-length : (n m : ℕ) (fs : List Factor) (j : ℕ) → length fs ≡ m * n → j < m → length (factor-row n fs j) ≡ n
+row-length : (n m : ℕ) (fs : List Factor) (j : ℕ) → length fs ≡ m * n → j < m → length (factor-row n fs j) ≡ n
 row-length n m fs j e h =
     length-take-le n (drop (j * n) fs) (rw length-drop (let end = row-end n m j h in omega arith))
 
@@ -90,11 +89,8 @@ module _ (n : ℕ) (ps : List ShadowPrice) (fs : List Factor) where
       let close = w .spreads j h i (omega arith) k (omega arith) in
       omega (arith, row-apart j i k a b)
 
-  pub clear-within : Clear (Table-refused n ps fs) → Table-within n ps fs
-  clear-within none = ⊎-elim (λ r. absurd (none OutsideLimits r)) (λ w. w) decided
-
   -- there is one cause
-  least : (d : Cause) → Table-refused n ps fs d → 13 ≤ number d
+  pub least : (d : Cause) → Table-refused n ps fs d → 13 ≤ number d
   least d (no-bus e) = lit≤ tt
   least d (buses-over l) = lit≤ tt
   least d (constraints-over l) = lit≤ tt
@@ -102,9 +98,6 @@ module _ (n : ℕ) (ps : List ShadowPrice) (fs : List Factor) where
   least d (other-length e) = lit≤ tt
   least d (factor-over k h l) = lit≤ tt
   least d (spread-over j i k h a b l) = lit≤ tt
-
-  pub outside-refused : (Table-within n ps fs → ⊥) → First (Table-refused n ps fs) OutsideLimits
-  outside-refused out = ⊎-elim (λ r. record { holds = r; least = least }) (λ w. absurd (out w)) decided
 
 -- ---- the limits of a network
 

@@ -18,21 +18,21 @@ use Rattle.networks.specs.Meaning.{Meaning}
 abbrev pub constraint-at : List RadialConstraint → ℕ → RadialConstraint
 constraint-at cs j = getD cs j (record { bus = 0; price = record { 0 = pos 0 } })
 
-abbrev pub bus-at : List RadialConstraint → ℕ → ℕ
-bus-at cs j = constraint-at cs j .bus
+abbrev pub constraint-bus : List RadialConstraint → ℕ → ℕ
+constraint-bus cs j = constraint-at cs j .bus
 
-abbrev pub price-at : List RadialConstraint → ℕ → ℤ
-price-at cs j = constraint-at cs j .price .0
+abbrev pub constraint-price : List RadialConstraint → ℕ → ℤ
+constraint-price cs j = constraint-at cs j .price .0
 
 -- ---- what it means, told by the relation of descent
 
 pub record Radial-tells (us : List ℕ) (cs : List RadialConstraint) (w : Meaning) : Type 0 where
   pub buses : w .buses ≡ length us + 1
   pub constraints : w .constraints ≡ length cs
-  pub price : (j : ℕ) → w .price j ≡ price-at cs j
+  pub price : (j : ℕ) → w .price j ≡ constraint-price cs j
   -- -1,000 at the constraint's bus and at its descendants, and nought at every other bus
-  pub under : (j i : ℕ) → j < length cs → i < length us + 1 → Under (upper us) (bus-at cs j) i → w .factor j i ≡ negsuc 999
-  pub elsewhere : (j i : ℕ) → (Under (upper us) (bus-at cs j) i → ⊥) → w .factor j i ≡ pos 0
+  pub under : (j i : ℕ) → j < length cs → i < length us + 1 → Under (upper us) (constraint-bus cs j) i → w .factor j i ≡ negsuc 999
+  pub elsewhere : (j i : ℕ) → (Under (upper us) (constraint-bus cs j) i → ⊥) → w .factor j i ≡ pos 0
   -- nought beyond the counts
   pub beyond-constraints : (j i : ℕ) → length cs ≤ j → w .factor j i ≡ pos 0
   pub beyond-buses : (j i : ℕ) → length us + 1 ≤ i → w .factor j i ≡ pos 0
@@ -46,8 +46,8 @@ abbrev pub radial-meaning : List ℕ → List RadialConstraint → Meaning
 radial-meaning us cs = record {
   buses = length us + 1;
   constraints = length cs;
-  price = price-at cs;
-  factor = λ j i. cond (ltb j (length cs) && (ltb i (length us + 1) && reaches (upper us) (bus-at cs j) i i)) (negsuc 999) (pos 0);
+  price = constraint-price cs;
+  factor = λ j i. cond (ltb j (length cs) && (ltb i (length us + 1) && reaches (upper us) (constraint-bus cs j) i i)) (negsuc 999) (pos 0);
 }
 
 -- ---- where it is refused
@@ -56,9 +56,9 @@ pub data Radial-refused (us : List ℕ) (cs : List RadialConstraint) : Cause →
   buses-over : most-buses < length us + 1 → Radial-refused us cs OutsideLimits
   upper-not-smaller : (i : ℕ) → i < length us → i + 1 ≤ atℕ us i → Radial-refused us cs OutsideLimits
   constraints-over : most-constraints < length cs → Radial-refused us cs OutsideLimits
-  at-root : (j : ℕ) → j < length cs → bus-at cs j ≡ 0 → Radial-refused us cs OutsideLimits
-  bus-beyond : (j : ℕ) → j < length cs → length us + 1 ≤ bus-at cs j → Radial-refused us cs OutsideLimits
-  price-over : (j : ℕ) → j < length cs → most-price < natAbs (price-at cs j) → Radial-refused us cs OutsideLimits
+  at-root : (j : ℕ) → j < length cs → constraint-bus cs j ≡ 0 → Radial-refused us cs OutsideLimits
+  bus-beyond : (j : ℕ) → j < length cs → length us + 1 ≤ constraint-bus cs j → Radial-refused us cs OutsideLimits
+  price-over : (j : ℕ) → j < length cs → most-price < natAbs (constraint-price cs j) → Radial-refused us cs OutsideLimits
 
 -- ---- the same limits, kept
 

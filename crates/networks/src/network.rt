@@ -1,9 +1,9 @@
 // What a network tells.
 ghost use mathlib.Core.Path.{_≡_};
 ghost use Prim.Native.Nat.{ℕ, _≤_};
-ghost use lib.IntN.{ℤ, pos, _-ℤ_, natAbs};
-ghost use Rattle.networks.specs.Limits.{most-buses, most-constraints, most-factor, most-price, most-spread};
-ghost use Rattle.networks.specs.Meaning.{Meaning};
+ghost use lib.IntN.{pos, natAbs};
+ghost use Rattle.networks.specs.Limits.{most-buses, most-constraints, most-factor, most-price};
+ghost use Rattle.networks.specs.Meaning.{Meaning, Spread-most};
 use quantities::Factor;
 use quantities::ShadowPrice;
 
@@ -34,8 +34,7 @@ pub trait Network {
 
     law factor_most: { (n : Self) (j i : ℕ) → natAbs (meaning n .factor j i) ≤ most-factor };
 
-    // two factors of one constraint, at any two buses
-    law spread_most: { (n : Self) (j i k : ℕ) → natAbs (meaning n .factor j i -ℤ meaning n .factor j k) ≤ most-spread };
+    law spread_most: { (n : Self) → Spread-most (meaning n) };
 
     law price_beyond: { (n : Self) (j : ℕ) → meaning n .constraints ≤ j → meaning n .price j ≡ pos 0 };
 

@@ -1,6 +1,5 @@
 // A network that is a tree: each bus but the root hangs from an upper bus of smaller number.
-ghost use mathlib.Core.Path.{_≡_};
-ghost use Prim.Native.Nat.{ℕ, _+_, _≤_, _<_};
+ghost use Prim.Native.Nat.{_+_, _≤_, _<_};
 ghost use lib.ListN.{length};
 ghost use Rattle.std.specs.Of.Vec.{vec-items};
 ghost use Rattle.networks.specs.Descent.{Falling};
