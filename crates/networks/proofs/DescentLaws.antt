@@ -33,6 +33,7 @@ module _ (up : ℕ → ℕ) (smaller : (i : ℕ) → 0 < i → up i < i) (b : �
       (λ e. subst (λ (k : ℕ). Under up b k) (sym (eqb-true i b e)) here, λ p. eq-eqb i b (omega (arith, under-above p)))
 
   pub reaches-under : (k i : ℕ) → i ≤ k → Decides (reaches up b k i) (Under up b i)
+  unfolding reaches
   reaches-under zero i h = under-end i (omega arith)
   reaches-under (suc k) i h = elim (cases-lt b i) [
     | inl l ↦

@@ -38,7 +38,7 @@ pub record Radial-tells (us : List ℕ) (cs : List RadialConstraint) (w : Meanin
   pub beyond-buses : (j i : ℕ) → length us + 1 ≤ i → w .factor j i ≡ pos 0
 
 -- A meaning holds the factors as a function, so here the path is followed: whether it reaches b in at most k steps from i.
-abbrev pub reaches : (ℕ → ℕ) → ℕ → ℕ → ℕ → Bool
+unfoldable pub reaches : (ℕ → ℕ) → ℕ → ℕ → ℕ → Bool
 reaches up b zero i = eqb i b
 reaches up b (suc k) i = cond (ltb b i) (reaches up b k (up i)) (eqb i b)
 
