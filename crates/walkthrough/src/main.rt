@@ -1,6 +1,7 @@
 // Goes through the rules by example, and says what it does at each step.
 use std::error::AnyError;
 
+mod makes;
 mod show;
 mod splits;
 
@@ -12,5 +13,8 @@ fn run(rt: &LibcRuntime) -> Result<(), AnyError> {
     splits::congestion(rt)?;
     splits::area(rt)?;
     splits::refused(rt)?;
-    splits::worked(rt)
+    splits::worked(rt)?;
+    makes::table(rt)?;
+    makes::radial(rt)?;
+    makes::outside_limits(rt)
 }
