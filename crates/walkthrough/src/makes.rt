@@ -12,6 +12,7 @@ use quantities::ShadowPrice;
 use refusals::CauseDisplay;
 use refusals::CauseError;
 use std::error::AnyError;
+use std::io;
 
 // Two buses and one constraint, its factors as given.
 pub fn table(rt: &LibcRuntime) -> Result<(), AnyError> {
@@ -23,7 +24,8 @@ pub fn table(rt: &LibcRuntime) -> Result<(), AnyError> {
     let factors = [Factor(500), Factor(-500)].to_vec(rt.alloc())?;
     Table::weigh(2, prices.as_slice(), factors.as_slice())?;
     let network = Table::new(2, prices, factors);
-    prices_at(rt, &network)
+    prices_at(rt, &network)?;
+    Ok(())
 }
 
 // Bus 2 hangs from bus 1, and bus 1 from the root; the constraint is at bus 1, so it is felt at bus 2 as well.
@@ -39,7 +41,8 @@ pub fn radial(rt: &LibcRuntime) -> Result<(), AnyError> {
     }].to_vec(rt.alloc())?;
     Radial::weigh(uppers.as_slice(), constraints.as_slice())?;
     let network = Radial::new(uppers, constraints);
-    prices_at(rt, &network)
+    prices_at(rt, &network)?;
+    Ok(())
 }
 
 // Two factors of one constraint that lie too far apart.
@@ -55,7 +58,7 @@ pub fn outside_limits(rt: &LibcRuntime) -> Result<(), AnyError> {
 }
 
 // Each constraint's factor at each bus, and the congestion price there.
-fn prices_at<N: Network>(rt: &LibcRuntime, network: &N) -> Result<(), AnyError> {
+fn prices_at<N: Network>(rt: &LibcRuntime, network: &N) -> io::Result<()> {
     for bus in 0..network.buses() {
         for constraint in 0..network.constraints() {
             println!(

@@ -3,16 +3,15 @@ use apportion::WeightedItem;
 use quantities::Quantity;
 use quantities::total;
 use std::error::AnyError;
+use std::io;
 
-pub fn say(rt: &LibcRuntime, text: &str) -> Result<(), AnyError> {
-    println!(rt, "{text}")?;
-    Ok(())
+pub fn say(rt: &LibcRuntime, text: &str) -> io::Result<()> {
+    println!(rt, "{text}")
 }
 
 // A number with its unit.
-pub fn figure(rt: &LibcRuntime, what: &str, number: i64, unit: &str) -> Result<(), AnyError> {
-    println!(rt, "   {what}: {number} {unit}")?;
-    Ok(())
+pub fn figure(rt: &LibcRuntime, what: &str, number: i64, unit: &str) -> io::Result<()> {
+    println!(rt, "   {what}: {number} {unit}")
 }
 
 // Each item's bus and weight, and its share.
@@ -21,7 +20,7 @@ pub fn shares<Q: Quantity, I: WeightedItem>(
     items: &[I],
     row: &[Q],
     unit: &str,
-) -> Result<(), AnyError> {
+) -> io::Result<()> {
     for (item, share) in items.iter().zip(row.iter()) {
         println!(
             rt,
@@ -52,10 +51,11 @@ pub fn sum<Q: Quantity>(
         "the shares add up to the whole amount",
         sum.units(),
         unit,
-    )
+    )?;
+    Ok(())
 }
 
-pub fn row<Q: Quantity>(rt: &LibcRuntime, what: &str, row: &[Q]) -> Result<(), AnyError> {
+pub fn row<Q: Quantity>(rt: &LibcRuntime, what: &str, row: &[Q]) -> io::Result<()> {
     print!(rt, "   {what}:")?;
     for quantity in row {
         print!(rt, " {}", quantity.units())?;

@@ -87,7 +87,8 @@ pub fn refused(rt: &LibcRuntime) -> Result<(), AnyError> {
         return Err("a split over no weight was taken".into());
     };
     println!(rt, "   100 cents over a weight of 0: {cause}")?;
-    show::row(rt, "the row still holds", &row)
+    show::row(rt, "the row still holds", &row)?;
+    Ok(())
 }
 
 // The splits and carried cents that were worked out by hand.
@@ -102,5 +103,6 @@ pub fn worked(rt: &LibcRuntime) -> Result<(), AnyError> {
     show::row(rt, "exact grains", &carried.twice)?;
     show::row(rt, "carried to cents", &carried.twice_in_cents)?;
     show::row(rt, "exact grains", &carried.below_nought)?;
-    show::row(rt, "carried to cents", &carried.below_nought_in_cents)
+    show::row(rt, "carried to cents", &carried.below_nought_in_cents)?;
+    Ok(())
 }
