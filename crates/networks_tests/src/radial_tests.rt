@@ -7,10 +7,6 @@ use networks::RadialConstraint;
 use networks::RadialNetwork;
 use quantities::Factor;
 use quantities::ShadowPrice;
-use quantities::kinds::FactorDebug;
-use quantities::kinds::FactorPartialEq;
-use quantities::kinds::ShadowPriceDebug;
-use quantities::kinds::ShadowPricePartialEq;
 use refusals::CauseDebug;
 use refusals::CausePartialEq;
 use std::test::*;
@@ -108,11 +104,11 @@ fn a_chain_of_32_buses_hangs_from_its_constraint(rt: LibcRuntime) -> Result<(), 
     let chain = Radial::new(uppers, constraints);
     check_eq(chain.buses(), 32)?;
     check_eq(chain.constraints(), 1)?;
-    check_eq(chain.shadow_price(0), ShadowPrice(9))?;
-    check_eq(chain.shadow_price(1), ShadowPrice(0))?;
-    check_eq(chain.factor(0, 1), Factor(0))?;
-    check_eq(chain.factor(0, 2), Factor(-1_000))?;
-    check_eq(chain.factor(0, 31), Factor(-1_000))?;
-    check_eq(chain.factor(0, 32), Factor(0))?;
-    check_eq(chain.factor(1, 2), Factor(0))
+    check_eq(chain.shadow_price(0).0, 9)?;
+    check_eq(chain.shadow_price(1).0, 0)?;
+    check_eq(chain.factor(0, 1).0, 0)?;
+    check_eq(chain.factor(0, 2).0, -1_000)?;
+    check_eq(chain.factor(0, 31).0, -1_000)?;
+    check_eq(chain.factor(0, 32).0, 0)?;
+    check_eq(chain.factor(1, 2).0, 0)
 }

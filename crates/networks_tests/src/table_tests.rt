@@ -5,15 +5,8 @@ use networks::Network;
 use networks::Table;
 use networks::TableNetwork;
 use networks::congestion_price;
-use quantities::CongestionPrice;
 use quantities::Factor;
 use quantities::ShadowPrice;
-use quantities::kinds::CongestionPriceDebug;
-use quantities::kinds::CongestionPricePartialEq;
-use quantities::kinds::FactorDebug;
-use quantities::kinds::FactorPartialEq;
-use quantities::kinds::ShadowPriceDebug;
-use quantities::kinds::ShadowPricePartialEq;
 use refusals::CauseDebug;
 use refusals::CausePartialEq;
 use std::test::*;
@@ -116,10 +109,10 @@ fn a_table_tells_what_was_given(rt: LibcRuntime) -> Result<(), Fail> {
     let table = Table::new(3, prices, factors);
     check_eq(table.buses(), 3)?;
     check_eq(table.constraints(), 2)?;
-    check_eq(table.shadow_price(1), ShadowPrice(-7))?;
-    check_eq(table.shadow_price(2), ShadowPrice(0))?;
-    check_eq(table.factor(1, 2), Factor(6))?;
-    check_eq(table.factor(0, 3), Factor(0))?;
-    check_eq(table.factor(2, 0), Factor(0))?;
-    check_eq(congestion_price(&table, 1), CongestionPrice(5 * 2 - 7 * 5))
+    check_eq(table.shadow_price(1).0, -7)?;
+    check_eq(table.shadow_price(2).0, 0)?;
+    check_eq(table.factor(1, 2).0, 6)?;
+    check_eq(table.factor(0, 3).0, 0)?;
+    check_eq(table.factor(2, 0).0, 0)?;
+    check_eq(congestion_price(&table, 1).0, 5 * 2 - 7 * 5)
 }
