@@ -15,7 +15,7 @@ use std::error::AnyError;
 use std::io;
 
 // Two buses and one constraint, its factors as given.
-pub fn table(rt: &LibcRuntime) -> Result<(), AnyError> {
+pub(crate) fn table(rt: &LibcRuntime) -> Result<(), AnyError> {
     show::say(
         rt,
         "5. A network given as a table: two buses, one constraint at -2500 cents per MWh",
@@ -29,7 +29,7 @@ pub fn table(rt: &LibcRuntime) -> Result<(), AnyError> {
 }
 
 // Bus 2 hangs from bus 1, and bus 1 from the root; the constraint is at bus 1, so it is felt at bus 2 as well.
-pub fn radial(rt: &LibcRuntime) -> Result<(), AnyError> {
+pub(crate) fn radial(rt: &LibcRuntime) -> Result<(), AnyError> {
     show::say(
         rt,
         "6. A radial network: buses 1 and 3 under the root, bus 2 under bus 1, a constraint at bus 1",
@@ -46,7 +46,7 @@ pub fn radial(rt: &LibcRuntime) -> Result<(), AnyError> {
 }
 
 // Two factors of one constraint that lie too far apart.
-pub fn outside_limits(rt: &LibcRuntime) -> Result<(), AnyError> {
+pub(crate) fn outside_limits(rt: &LibcRuntime) -> Result<(), AnyError> {
     let Err(cause) = Table::weigh(2, &[ShadowPrice(0)], &[Factor(1_000), Factor(-1_001)]) else {
         return Err("a table outside the limits was taken".into());
     };

@@ -5,17 +5,17 @@ use quantities::total;
 use std::error::AnyError;
 use std::io;
 
-pub fn say(rt: &LibcRuntime, text: &str) -> io::Result<()> {
+pub(crate) fn say(rt: &LibcRuntime, text: &str) -> io::Result<()> {
     println!(rt, "{text}")
 }
 
 // A number with its unit.
-pub fn figure(rt: &LibcRuntime, what: &str, number: i64, unit: &str) -> io::Result<()> {
+pub(crate) fn figure(rt: &LibcRuntime, what: &str, number: i64, unit: &str) -> io::Result<()> {
     println!(rt, "   {what}: {number} {unit}")
 }
 
 // Each item's bus and weight, and its share.
-pub fn shares<Q: Quantity, I: WeightedItem>(
+pub(crate) fn shares<Q: Quantity, I: WeightedItem>(
     rt: &LibcRuntime,
     items: &[I],
     row: &[Q],
@@ -34,7 +34,7 @@ pub fn shares<Q: Quantity, I: WeightedItem>(
 }
 
 // The sum of the shares beside the amount that was split.
-pub fn sum<Q: Quantity>(
+pub(crate) fn sum<Q: Quantity>(
     rt: &LibcRuntime,
     amount: Q,
     row: &[Q],
@@ -55,7 +55,7 @@ pub fn sum<Q: Quantity>(
     Ok(())
 }
 
-pub fn row<Q: Quantity>(rt: &LibcRuntime, what: &str, row: &[Q]) -> io::Result<()> {
+pub(crate) fn row<Q: Quantity>(rt: &LibcRuntime, what: &str, row: &[Q]) -> io::Result<()> {
     print!(rt, "   {what}:")?;
     for quantity in row {
         print!(rt, " {}", quantity.units())?;

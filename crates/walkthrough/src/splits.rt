@@ -19,7 +19,7 @@ use refusals::CauseError;
 use std::error::AnyError;
 
 // From the flow over a constraint to whole cents at each load bus behind it.
-pub fn congestion(rt: &LibcRuntime) -> Result<(), AnyError> {
+pub(crate) fn congestion(rt: &LibcRuntime) -> Result<(), AnyError> {
     show::say(rt, "1. A constraint's congestion, split over load buses")?;
     let price = ShadowPrice(-2_499);
     let flow = Flow(-1_233_100);
@@ -53,7 +53,7 @@ pub fn congestion(rt: &LibcRuntime) -> Result<(), AnyError> {
 }
 
 // From the load of an area to whole tenths of a megawatt at each of its buses.
-pub fn area(rt: &LibcRuntime) -> Result<(), AnyError> {
+pub(crate) fn area(rt: &LibcRuntime) -> Result<(), AnyError> {
     show::say(rt, "2. An area's load, split over its buses")?;
     let load = Megawatts::withdrawal(1_001);
     show::figure(rt, "the area withdraws", load.0, "tenths of a megawatt")?;
@@ -79,7 +79,7 @@ pub fn area(rt: &LibcRuntime) -> Result<(), AnyError> {
 }
 
 // A refusal has its number, and leaves the row as it was.
-pub fn refused(rt: &LibcRuntime) -> Result<(), AnyError> {
+pub(crate) fn refused(rt: &LibcRuntime) -> Result<(), AnyError> {
     show::say(rt, "3. A split that is refused")?;
     let buses = [LoadBus { bus: 0, weight: 0 }];
     let mut row = [Cents(7); 1];
@@ -92,7 +92,7 @@ pub fn refused(rt: &LibcRuntime) -> Result<(), AnyError> {
 }
 
 // The splits and carried cents that were worked out by hand.
-pub fn worked(rt: &LibcRuntime) -> Result<(), AnyError> {
+pub(crate) fn worked(rt: &LibcRuntime) -> Result<(), AnyError> {
     show::say(rt, "4. Worked out by hand")?;
     let splits = worked_splits()?;
     show::row(rt, "100 cents over 1, 1, 1", &splits.hundred)?;
