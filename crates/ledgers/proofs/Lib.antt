@@ -1,2 +1,0 @@
-mod Placed
-mod Steps

@@ -1,3 +1,0 @@
-pub mod Classes
-pub mod Meanings
-pub mod Book
