@@ -1,4 +1,6 @@
 // Splitting an amount over weighted items.
+#![tactic(auto)]
+
 mod items;
 mod shares;
 mod worked;

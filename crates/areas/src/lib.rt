@@ -1,4 +1,6 @@
 // The load of an area, spread over its members by their shares.
+#![tactic(auto)]
+
 ghost use Rattle.std.specs.Prelude.{◌≡◌, ◌+◌, ◌≤◌, ◌++◌, length, pos, MatchResult};
 ghost use Rattle.apportion.specs.Split.{shares, whole};
 ghost use Rattle.ledgers.specs.Book.{book, holding};

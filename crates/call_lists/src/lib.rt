@@ -1,4 +1,6 @@
 // A list of calls, made one after the other.
+#![tactic(auto)]
+
 ghost use Rattle.std.specs.Prelude.{◌≡◌, length, MatchResult};
 ghost use Rattle.refusals.specs.Answers.{Answered, WrongLength};
 ghost use Rattle.hours.specs.Hours.{register_of};

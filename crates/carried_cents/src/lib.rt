@@ -1,4 +1,6 @@
 // Whole cents from exact amounts in grains, with what rounding leaves over carried on to the next amount.
+#![tactic(auto)]
+
 ghost use Rattle.std.specs.Prelude.{◌≡◌, ◌+◌, ◌^◌, ◌<◌, length, ◌+ℤ◌, ◌-ℤ◌, MatchResult, FitsSigned, OnOk, unsigned_abs};
 ghost use Rattle.std.specs.Int.{w64};
 ghost use Rattle.refusals.specs.Answers.{Answered, WrongLength};

@@ -1,4 +1,6 @@
 // One hour from the first posting to the second closing: calls that are taken, and calls that are refused.
+#![tactic(auto)]
+
 use apportion::AreaMember;
 use hours::{ClosedHour, DayAhead, Hour, RealTime, weigh_making};
 use positions::{BusPosition, Class, Position, Transaction};

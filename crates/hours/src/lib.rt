@@ -1,4 +1,6 @@
 // The hour: two ledgers in lent slices, open day-ahead, then in real time, then closed.
+#![tactic(auto)]
+
 mod hour;
 
 pub use hour::{ClosedHour, DayAhead, Hour, MAX_RECORDS, RealTime, Records, weigh_making};

@@ -1,4 +1,6 @@
 // Short lists of calls at the edges of each limit, and what each answers.
+#![tactic(auto)]
+
 #[cfg(test)]
 mod tests {
     use apportion::AreaMember;

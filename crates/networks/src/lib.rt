@@ -1,4 +1,6 @@
 // Networks: what one tells, the makes that there are, and the congestion price at a bus.
+#![tactic(auto)]
+
 mod network;
 mod prices;
 mod radial;

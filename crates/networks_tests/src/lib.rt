@@ -1,4 +1,6 @@
 // Tests of the networks: what lies just inside the limits is taken, and what lies just outside is refused.
+#![tactic(auto)]
+
 #[cfg(test)]
 mod radial_tests;
 #[cfg(test)]

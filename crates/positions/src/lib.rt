@@ -1,4 +1,6 @@
 // Positions: what every record of a ledger means, and the two kinds that there are.
+#![tactic(auto)]
+
 mod bus_positions;
 mod classes;
 mod position;

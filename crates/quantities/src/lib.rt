@@ -1,5 +1,7 @@
 // The quantities of a settlement, each a type of its own; the products between them; cents from grains; and the
 // one kit of sums and floors.
+#![tactic(auto)]
+
 pub mod kinds;
 mod limits;
 mod products;

@@ -1,4 +1,6 @@
 // Why a call is refused: the cause, the number by which it is answered, and the layer that refuses.
+#![tactic(auto)]
+
 ghost use Rattle.std.specs.Prelude.{◌≡◌, ℕ, ◌++◌, Some, codes, decimal};
 ghost use Rattle.refusals.specs.Causes.{layer, layer_number, number};
 

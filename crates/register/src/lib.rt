@@ -1,5 +1,7 @@
 // The register of an hour: what any list of calls answers and leaves, told in specs/ by the calls alone. Here stand its answers,
 // its classes by number, and the totals that an open phase keeps.
+#![tactic(auto)]
+
 mod answers;
 mod classes;
 mod totals;

@@ -1,4 +1,5 @@
 // Goes through the rules by example, and says what it does at each step.
+#![tactic(auto)]
 
 mod makes;
 mod show;
