@@ -8,7 +8,7 @@ use quantities::CongestionPrice;
 
 // The shadow price of each constraint times its factor at the bus, together. Beyond the buses it is nought.
 pub fn congestion_price<N: Network>(network: &N, bus: u16) -> CongestionPrice
-    ensures value { result.0 ≡ congestion_price_at (meaning network.now) bus }
+    ensures value { result.0 ≡ congestion_price_at (N.Network.meaning network.now) bus }
     ensures bound { unsigned_abs result.0 ≤ 8000000000 }
 {
     let mut price = CongestionPrice(0);

@@ -18,25 +18,25 @@ returns-then-members-room c =
     let inside = stands_within l.len l.records.now in
     record { answer = area_full (book l) c.args.members.now (no_room (omega arith)); posted = refl }
 
-pub returns-in-err-weigh-shares : goal.returns-in-err-weigh-shares
-returns-in-err-weigh-shares c =
+pub returns-in_err-weigh_shares : goal.returns-in_err-weigh_shares
+returns-in_err-weigh_shares c =
     let l = c.args.ledger.now in
     let ms = c.args.members.now in
     let left = c.room.ensures in
     let inside = stands_within l.len l.records.now in
-    let q = c.in-err-weigh-shares.ensures in
-    let e = err_from_is_err_and c.from-residual.result c.from-residual.ensures.1 in
+    let q = c.in_err-weigh_shares.ensures in
+    let e = err_from_is_err_and c.from_residual.result c.from_residual.ensures.1 in
     rw (e.1, e.2) (record {
       answer = subst (λ (x : Cause). First (AreaRefused (book l) ms) x) (sym q.0) (area_apart (book l) ms c.if-members-gt-MAX-MEMBERS.false (omega arith) q.1);
       posted = refl;
     })
 
-pub post-shares-requires : goal.post-shares-requires
-post-shares-requires c =
+pub post_shares-requires : goal.post_shares-requires
+post_shares-requires c =
     let l = c.args.ledger.now in
     let left = c.room.ensures in
     let inside = stands_within l.len l.records.now in
-    record { whole = c.in-ok-weigh-shares.ensures; room = omega arith; few = c.if-members-gt-MAX-MEMBERS.false }
+    record { whole = c.in_ok-weigh_shares.ensures; room = omega arith; few = c.if-members-gt-MAX-MEMBERS.false }
 
 pub returns : goal.returns
 returns c =
@@ -44,6 +44,6 @@ returns c =
     let left = c.room.ensures in
     let inside = stands_within l.len l.records.now in
     record {
-      answer = area_clear (book l) c.args.members.now c.if-members-gt-MAX-MEMBERS.false (omega arith) c.in-ok-weigh-shares.ensures;
-      posted = (c.count-first.ensures, c.post-shares.ensures);
+      answer = area_clear (book l) c.args.members.now c.if-members-gt-MAX-MEMBERS.false (omega arith) c.in_ok-weigh_shares.ensures;
+      posted = (c.count-first.ensures, c.post_shares.ensures);
     }

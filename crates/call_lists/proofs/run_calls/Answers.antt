@@ -6,4 +6,4 @@ pub returns-then-answers-calls : goal.returns-then-answers-calls
 returns-then-answers-calls g c = record { answer = wrong_length _ _ c.if-answers-calls.true; run = (refl, refl) }
 
 pub returns : goal.returns
-returns g c = record { answer = right_length _ _ c.if-answers-calls.false; run = c.make-calls.ensures }
+returns g c = record { answer = right_length _ _ c.if-answers-calls.false; run = c.make_calls.ensures }

@@ -8,6 +8,6 @@ pub returns : goal.returns
 returns c =
     record {
       answer = λ _ h. h.1 c.if-row-exact.false;
-      places = c.fill-carried.ensures;
-      adds = ap (λ zs. sum_of (λ z. z) zs) c.fill-carried.ensures ∙ carried_row_adds 10000 (grains c.args.exact.now);
+      places = c.fill_carried.ensures;
+      adds = ap (λ zs. sum_of (λ z. z) zs) c.fill_carried.ensures ∙ carried_row_adds 10000 (grains c.args.exact.now);
     }

@@ -68,8 +68,8 @@ since-requires g c =
     let same = ap (λ z. z -ℤ c.loop-i.before.given) h.given_is ∙ ap (λ z. floor (A *ℤ pos q) W -ℤ z) c.loop-i.invariant.1 in
     subst (SFits w64) (sym same) (between_fits w64 A W p q h.fits c.requires.some h.grown h.within)
 
-pub offset-bounds-row-i : goal.offset-bounds-row-i
-offset-bounds-row-i g c =
+pub offset_bounds-row-i : goal.offset_bounds-row-i
+offset_bounds-row-i g c =
     let room : c.loop-i.i < length c.loop-i.row = omega arith in search rules
 
 pub loop-i-preserved : goal.loop-i-preserved
@@ -82,11 +82,11 @@ loop-i-preserved g c =
     let q = sumℕ (i + 1) (atℕ ws) in
     let W = c.args.sum in
     let row = c.loop-i.row in
-    let new = c.from-units.result in
+    let new = c.from_units.result in
     let h = up_to g (goal.at.loop-i-preserved g c).After-with-after in
     let small : SFits w64 c.since.result = search rules in
     let given : u new ≡ floor (A *ℤ pos q) W -ℤ floor (A *ℤ pos p) W =
-    c.from-units.ensures ∙ to_z-of_z w64 c.since.result small ∙ c.since.ensures ∙ ap (λ z. z -ℤ c.loop-i.before.given) h.given_is ∙ ap (λ z. floor (A *ℤ pos q) W -ℤ z) c.loop-i.invariant.1 in
+    c.from_units.ensures ∙ to_z-of_z w64 c.since.result small ∙ c.since.ensures ∙ ap (λ z. z -ℤ c.loop-i.before.given) h.given_is ∙ ap (λ z. floor (A *ℤ pos q) W -ℤ z) c.loop-i.invariant.1 in
     let value : u new ≡ share A (length ws) (atℕ ws) i =
     given ∙ ap (λ k. floor (A *ℤ pos k) W -ℤ floor (A *ℤ pos p) W) (sumℕ_more i (atℕ ws)) ∙ ap (λ k. floor (A *ℤ pos (sumℕ (suc i) (atℕ ws))) k -ℤ floor (A *ℤ pos p) k) c.requires.sum in
     let room : i < length (map u row) = rw length-map (omega arith) in

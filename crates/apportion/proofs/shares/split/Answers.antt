@@ -18,13 +18,13 @@ returns-then-row-items g c =
       toward = tt;
     }
 
-pub returns-in-err-sum : goal.returns-in-err-sum
-returns-in-err-sum g c =
+pub returns-in_err-sum : goal.returns-in_err-sum
+returns-in_err-sum g c =
     let f = g.I.WeightedItem.weighs in
     let xs = c.args.items.now in
-    let p = err_from_is_err_and c.from-residual.result c.from-residual.ensures.1 in
+    let p = err_from_is_err_and c.from_residual.result c.from_residual.ensures.1 in
     rw (p.1, p.2) (record {
-      answer = split_weights (length c.args.row.now) (map f xs) _ (rw length-map c.if-row-items.false) c.in-err-sum.ensures.answer;
+      answer = split_weights (length c.args.row.now) (map f xs) _ (rw length-map c.if-row-items.false) c.in_err-sum.ensures.answer;
       places = refl;
       fair = tt;
       toward = tt;
@@ -33,8 +33,8 @@ returns-in-err-sum g c =
 pub fill-requires : goal.fill-requires
 fill-requires g c =
     let ws = map g.I.WeightedItem.weighs c.args.items.now in
-    let is = c.in-ok-sum.ensures.value in
-    let some = sum_some ws c.in-ok-sum.ensures.answer in
+    let is = c.in_ok-sum.ensures.value in
+    let some = sum_some ws c.in_ok-sum.ensures.answer in
     record { length = c.if-row-items.false; sum = is; some = omega arith; most = omega arith }
 
 pub returns : goal.returns
@@ -44,7 +44,7 @@ returns g c =
     let A = u c.args.amount in
     let xs = c.args.items.now in
     let ws = map f xs in
-    let clear = c.in-ok-sum.ensures.answer in
+    let clear = c.in_ok-sum.ensures.answer in
     let some = sum_some ws clear in
     let row = map u c.fill.new.row in
     let done = c.fill.ensures in

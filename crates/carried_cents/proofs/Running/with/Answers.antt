@@ -12,7 +12,7 @@ returns c =
     let wide : SFits w128 s = search rules in
     let sum : to_z w128 (of_z w128 (to_z w128 (of_z w128 s) +ℤ to_z w128 (of_z w128 c.from.result))) ≡ s +ℤ a = omega (arith, ints) in
     let ten : to_z w128 (of_z w128 c.from-2.result) ≡ pos 10000 = omega (arith, ints) in
-    let q = euclid_is {x = to_z w128 (of_z w128 (to_z w128 (of_z w128 s) +ℤ to_z w128 (of_z w128 c.from.result)))} {y = to_z w128 (of_z w128 c.from-2.result)} (s +ℤ a) 10000 c.div-euclid-given.ensures sum ten in
-    let kept : SFits w128 c.div-euclid-given.result = search rules in
-    let back : to_z w128 (of_z w128 c.div-euclid-given.result) ≡ c.div-euclid-given.result = omega (arith, ints) in
+    let q = euclid_is {x = to_z w128 (of_z w128 (to_z w128 (of_z w128 s) +ℤ to_z w128 (of_z w128 c.from.result)))} {y = to_z w128 (of_z w128 c.from-2.result)} (s +ℤ a) 10000 c.div_euclid-given.ensures sum ten in
+    let kept : SFits w128 c.div_euclid-given.result = search rules in
+    let back : to_z w128 (of_z w128 c.div_euclid-given.result) ≡ c.div_euclid-given.result = omega (arith, ints) in
     record { exact = sum; given = back ∙ q; near = fits }

@@ -11,6 +11,6 @@ returns c =
     let d = closed_book c.args.self.now.transactions in
     record {
       positions = (drop b.mark b.items, ap (λ (xs : List BusPosition). map (in_phase day_ahead) xs ++ map (in_phase real_time) (drop b.mark b.items)) (sym c.day_ahead.ensures.records));
-      transactions = (drop d.mark d.items, ap (λ (xs : List Transaction). map (in_phase day_ahead) xs ++ map (in_phase real_time) (drop d.mark d.items)) (sym c.day-ahead-2.ensures.records));
-      places = (c.day_ahead.ensures.place, c.day-ahead-2.ensures.place);
+      transactions = (drop d.mark d.items, ap (λ (xs : List Transaction). map (in_phase day_ahead) xs ++ map (in_phase real_time) (drop d.mark d.items)) (sym c.day_ahead-2.ensures.records));
+      places = (c.day_ahead.ensures.place, c.day_ahead-2.ensures.place);
     }

@@ -11,5 +11,5 @@ returns c =
     let d = closed_book c.args.self.now.transactions in
     record {
       positions = (take b.mark b.items, ap (λ (xs : List BusPosition). map (in_phase day_ahead) (take b.mark b.items) ++ map (in_phase real_time) xs) (sym c.real_time.ensures));
-      transactions = (take d.mark d.items, ap (λ (xs : List Transaction). map (in_phase day_ahead) (take d.mark d.items) ++ map (in_phase real_time) xs) (sym c.real-time-2.ensures));
+      transactions = (take d.mark d.items, ap (λ (xs : List Transaction). map (in_phase day_ahead) (take d.mark d.items) ++ map (in_phase real_time) xs) (sym c.real_time-2.ensures));
     }

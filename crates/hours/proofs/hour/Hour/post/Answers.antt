@@ -14,7 +14,7 @@ use Rattle.register.specs.Views.{phase_of, register}
 use Rattle.register.proofs.Steps.{open_phase, post_no_bus, post_no_participant, post_no_class, post_too_much, post_fills, post_full}
 use Rattle.register.proofs.Ghosts.{posted_ghosts}
 use Rattle.hours.proofs.hour.Hour.post.Goals as goal
-use Rattle.hours.proofs.hour.Hour.post.Goals.{In-ok-number}
+use Rattle.hours.proofs.hour.Hour.post.Goals.{In_ok-number}
 use Rattle.hours.proofs.hour.Hour.post.Given as given
 
 abbrev call : ℕ → ℕ → ℕ → ℕ → Posting
@@ -32,52 +32,52 @@ returns-then-participant-gt-LAST-PARTICIPANT g c =
     let a = call c.args.participant c.args.class c.args.bus c.args.tenths in
     post_no_participant (register_of h) (phase_of g.row.PHASE) (open_phase g.row.PHASE h.buses (book h.positions) (book h.transactions) (phased h)) a c.if-bus-self.false c.if-participant-gt-LAST-PARTICIPANT.true
 
-pub returns-in-default : goal.returns-in-default
-returns-in-default g c =
+pub returns-in_default : goal.returns-in_default
+returns-in_default g c =
     let h = c.args.self.now in
     let a = call c.args.participant c.args.class c.args.bus c.args.tenths in
-    post_no_class (register_of h) (phase_of g.row.PHASE) (open_phase g.row.PHASE h.buses (book h.positions) (book h.transactions) (phased h)) a c.if-bus-self.false c.if-participant-gt-LAST-PARTICIPANT.false c.in-default.ensures
+    post_no_class (register_of h) (phase_of g.row.PHASE) (open_phase g.row.PHASE h.buses (book h.positions) (book h.transactions) (phased h)) a c.if-bus-self.false c.if-participant-gt-LAST-PARTICIPANT.false c.in_default.ensures
 
-pub returns-in-err-totals : goal.returns-in-err-totals
-returns-in-err-totals g c =
+pub returns-in_err-totals : goal.returns-in_err-totals
+returns-in_err-totals g c =
     let h = c.args.self.now in
     let a = call c.args.participant c.args.class c.args.bus c.args.tenths in
     let r = register_of h in
-    let over = c.in-err-totals.ensures in
+    let over = c.in_err-totals.ensures in
     let is = ap (of_side h.totals) c.side.ensures ∙ summed h (side_of c.in-Some.class) in
-    let e = err_from_is_err_and c.from-residual.result c.from-residual.ensures.1 in
+    let e = err_from_is_err_and c.from_residual.result c.from_residual.ensures.1 in
     let step = post_too_much r (phase_of g.row.PHASE) (open_phase g.row.PHASE h.buses (book h.positions) (book h.transactions) (phased h)) a c.if-bus-self.false c.if-participant-gt-LAST-PARTICIPANT.false c.in-Some.class c.in-Some.ensures (omega (arith, over.1)) in
     rw (e.1, e.2) (subst (λ (x : Cause). Step r (post a) (Refused x) r) (sym over.0) step)
 
-pub returns-in-err-number : goal.returns-in-err-number
-returns-in-err-number g c =
+pub returns-in_err-number : goal.returns-in_err-number
+returns-in_err-number g c =
     let h = c.args.self.now in
     let a = call c.args.participant c.args.class c.args.bus c.args.tenths in
-    let fit = c.in-ok-totals.ensures.0 in
+    let fit = c.in_ok-totals.ensures.0 in
     let is = ap (of_side h.totals) c.side.ensures ∙ summed h (side_of c.in-Some.class) in
-    let q = c.in-err-number.ensures.posted in
-    let e = err_from_is_err_and c.from-residual-in-err-number.result c.from-residual-in-err-number.ensures.1 in
+    let q = c.in_err-number.ensures.posted in
+    let e = err_from_is_err_and c.from_residual-in_err-number.result c.from_residual-in_err-number.ensures.1 in
     let step = post_full g.row.PHASE h.buses (book h.positions) (book h.transactions) (phased h) a c.if-bus-self.false c.if-participant-gt-LAST-PARTICIPANT.false c.in-Some.class c.in-Some.ensures (omega arith) _ (book c.post.new.self) q.0 q.1 q.2 in
     rw (e.1, e.2) step
 
 -- the step that is taken
-step : (g : given.Over) (c : goal.In-ok-number g) → Step (register_of c.args.self.now) (post (call c.args.participant c.args.class c.args.bus c.args.tenths)) (RecordNumber c.in-ok-number.number) (register g.row.PHASE c.args.self.now.buses (book c.post.new.self) (book c.args.self.now.transactions))
+step : (g : given.Over) (c : goal.In_ok-number g) → Step (register_of c.args.self.now) (post (call c.args.participant c.args.class c.args.bus c.args.tenths)) (RecordNumber c.in_ok-number.number) (register g.row.PHASE c.args.self.now.buses (book c.post.new.self) (book c.args.self.now.transactions))
 step g c =
     let h = c.args.self.now in
     let a = call c.args.participant c.args.class c.args.bus c.args.tenths in
-    let fit = c.in-ok-totals.ensures.0 in
+    let fit = c.in_ok-totals.ensures.0 in
     let is = ap (of_side h.totals) c.side.ensures ∙ summed h (side_of c.in-Some.class) in
-    let q = c.in-ok-number.ensures.posted in
-    post_fills g.row.PHASE h.buses (book h.positions) (book h.transactions) (phased h) a c.if-bus-self.false c.if-participant-gt-LAST-PARTICIPANT.false c.in-Some.class c.in-Some.ensures (omega arith) c.in-ok-number.number (book c.post.new.self) (marked h).0.0 q.0 q.1 c.new.result c.new.ensures q.2
+    let q = c.in_ok-number.ensures.posted in
+    post_fills g.row.PHASE h.buses (book h.positions) (book h.transactions) (phased h) a c.if-bus-self.false c.if-participant-gt-LAST-PARTICIPANT.false c.in-Some.class c.in-Some.ensures (omega arith) c.in_ok-number.number (book c.post.new.self) (marked h).0.0 q.0 q.1 c.new.result c.new.ensures q.2
 
-pub invariant-of-self-2 : goal.invariant-of-self-2
-invariant-of-self-2 g c =
+pub invariant_of-self-2 : goal.invariant_of-self-2
+invariant_of-self-2 g c =
     let h = c.args.self.now in
-    let q = c.in-ok-number.ensures.posted in
-    posted_ghosts g.row.PHASE h.buses h.totals c.in-ok-totals.totals (book h.positions) (book h.transactions)
+    let q = c.in_ok-number.ensures.posted in
+    posted_ghosts g.row.PHASE h.buses h.totals c.in_ok-totals.totals (book h.positions) (book h.transactions)
     (tallied h) (sound h)
     (position c.args.participant c.in-Some.class c.args.bus c.args.tenths)
-    c.side.result (book c.post.new.self) c.side.ensures c.in-ok-totals.ensures c.new.result c.new.ensures q.2 (step g (goal.at.invariant-of-self-2 g c).In-ok-number)
+    c.side.result (book c.post.new.self) c.side.ensures c.in_ok-totals.ensures c.new.result c.new.ensures q.2 (step g (goal.at.invariant_of-self-2 g c).In_ok-number)
 
 pub returns : goal.returns
-returns g c = step g (goal.at.returns g c).In-ok-number
+returns g c = step g (goal.at.returns g c).In_ok-number

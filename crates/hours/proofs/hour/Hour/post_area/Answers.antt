@@ -15,18 +15,18 @@ use Rattle.register.proofs.Spread.{area_no_bus, area_no_participant, area_too_mu
 use Rattle.register.proofs.Steps.{open_phase}
 use Rattle.hours.proofs.hour.Hour.post_area.Given as given
 use Rattle.hours.proofs.hour.Hour.post_area.Goals as goal
-use Rattle.hours.proofs.hour.Hour.post_area.Goals.{In-ok-first}
+use Rattle.hours.proofs.hour.Hour.post_area.Goals.{In_ok-first}
 
 abbrev call : ℕ → ℕ → List AreaMember → Area
 call who m over = record { participant = who; amount = m; members = over }
 
-pub returns-in-err-weigh-members : goal.returns-in-err-weigh-members
-returns-in-err-weigh-members g c =
+pub returns-in_err-weigh_members : goal.returns-in_err-weigh_members
+returns-in_err-weigh_members g c =
     let h = c.args.self.now in
     let a = call c.args.participant c.args.tenths c.args.members.now in
     let r = register_of h in
-    let q = c.in-err-weigh-members.ensures in
-    let e = err_from_is_err_and c.from-residual.result c.from-residual.ensures.1 in
+    let q = c.in_err-weigh_members.ensures in
+    let e = err_from_is_err_and c.from_residual.result c.from_residual.ensures.1 in
     let step = area_no_bus r (phase_of g.row.PHASE) (open_phase g.row.PHASE h.buses (book h.positions) (book h.transactions) (phased h)) a q.1.0 q.1.1 q.1.2 in
     rw (e.1, e.2) (subst (λ (x : Cause). Step r (area a) (Refused x) r) (sym q.0) step)
 
@@ -34,50 +34,50 @@ pub returns-then-participant-gt-LAST-PARTICIPANT : goal.returns-then-participant
 returns-then-participant-gt-LAST-PARTICIPANT g c =
     let h = c.args.self.now in
     let a = call c.args.participant c.args.tenths c.args.members.now in
-    area_no_participant (register_of h) (phase_of g.row.PHASE) (open_phase g.row.PHASE h.buses (book h.positions) (book h.transactions) (phased h)) a c.in-ok-weigh-members.ensures c.if-participant-gt-LAST-PARTICIPANT.true
+    area_no_participant (register_of h) (phase_of g.row.PHASE) (open_phase g.row.PHASE h.buses (book h.positions) (book h.transactions) (phased h)) a c.in_ok-weigh_members.ensures c.if-participant-gt-LAST-PARTICIPANT.true
 
-pub returns-in-err-totals : goal.returns-in-err-totals
-returns-in-err-totals g c =
+pub returns-in_err-totals : goal.returns-in_err-totals
+returns-in_err-totals g c =
     let h = c.args.self.now in
     let a = call c.args.participant c.args.tenths c.args.members.now in
     let r = register_of h in
-    let over = c.in-err-totals.ensures in
+    let over = c.in_err-totals.ensures in
     let is = summed h Withdrawing in
-    let e = err_from_is_err_and c.from-residual-in-err-totals.result c.from-residual-in-err-totals.ensures.1 in
-    let step = area_too_much r (phase_of g.row.PHASE) (open_phase g.row.PHASE h.buses (book h.positions) (book h.transactions) (phased h)) a c.in-ok-weigh-members.ensures c.if-participant-gt-LAST-PARTICIPANT.false (omega (arith, over.1)) in
+    let e = err_from_is_err_and c.from_residual-in_err-totals.result c.from_residual-in_err-totals.ensures.1 in
+    let step = area_too_much r (phase_of g.row.PHASE) (open_phase g.row.PHASE h.buses (book h.positions) (book h.transactions) (phased h)) a c.in_ok-weigh_members.ensures c.if-participant-gt-LAST-PARTICIPANT.false (omega (arith, over.1)) in
     rw (e.1, e.2) (subst (λ (x : Cause). Step r (area a) (Refused x) r) (sym over.0) step)
 
 -- what the areas' own call refused
-pub returns-in-err-first : goal.returns-in-err-first
-returns-in-err-first g c =
+pub returns-in_err-first : goal.returns-in_err-first
+returns-in_err-first g c =
     let h = c.args.self.now in
     let a = call c.args.participant c.args.tenths c.args.members.now in
-    let fit = c.in-ok-totals.ensures.0 in
+    let fit = c.in_ok-totals.ensures.0 in
     let is = summed h Withdrawing in
-    let q = c.in-err-first.ensures in
-    let e = err_from_is_err_and c.from-residual-in-err-first.result c.from-residual-in-err-first.ensures.1 in
-    let step = area_unposted g.row.PHASE h.buses (book h.positions) (book h.transactions) (phased h) a c.in-ok-weigh-members.ensures c.if-participant-gt-LAST-PARTICIPANT.false (omega arith) (sized h).0 _ (book c.post-area.new.ledger) q.answer q.posted in
+    let q = c.in_err-first.ensures in
+    let e = err_from_is_err_and c.from_residual-in_err-first.result c.from_residual-in_err-first.ensures.1 in
+    let step = area_unposted g.row.PHASE h.buses (book h.positions) (book h.transactions) (phased h) a c.in_ok-weigh_members.ensures c.if-participant-gt-LAST-PARTICIPANT.false (omega arith) (sized h).0 _ (book c.post_area.new.ledger) q.answer q.posted in
     rw (e.1, e.2) step
 
 -- the step that is taken
-step : (g : given.Over) (c : goal.In-ok-first g) → Step (register_of c.args.self.now) (area (call c.args.participant c.args.tenths c.args.members.now)) (RecordNumber c.in-ok-first.first) (register g.row.PHASE c.args.self.now.buses (book c.post-area.new.ledger) (book c.args.self.now.transactions))
+step : (g : given.Over) (c : goal.In_ok-first g) → Step (register_of c.args.self.now) (area (call c.args.participant c.args.tenths c.args.members.now)) (RecordNumber c.in_ok-first.first) (register g.row.PHASE c.args.self.now.buses (book c.post_area.new.ledger) (book c.args.self.now.transactions))
 step g c =
     let h = c.args.self.now in
     let ms = c.args.members.now in
     let a = call c.args.participant c.args.tenths ms in
-    let fit = c.in-ok-totals.ensures.0 in
+    let fit = c.in_ok-totals.ensures.0 in
     let is = summed h Withdrawing in
-    let q = c.in-ok-first.ensures in
-    area_fills g.row.PHASE h.buses (book h.positions) (book h.transactions) (phased h) a c.in-ok-weigh-members.ensures c.if-participant-gt-LAST-PARTICIPANT.false (omega arith) (clear_room (book h.positions) ms q.answer) (clear_whole (book h.positions) ms q.answer) c.in-ok-first.first (book c.post-area.new.ledger) (marked h).0.0 q.posted.0 q.posted.1
+    let q = c.in_ok-first.ensures in
+    area_fills g.row.PHASE h.buses (book h.positions) (book h.transactions) (phased h) a c.in_ok-weigh_members.ensures c.if-participant-gt-LAST-PARTICIPANT.false (omega arith) (clear_room (book h.positions) ms q.answer) (clear_whole (book h.positions) ms q.answer) c.in_ok-first.first (book c.post_area.new.ledger) (marked h).0.0 q.posted.0 q.posted.1
 
-pub invariant-of-self-2 : goal.invariant-of-self-2
-invariant-of-self-2 g c =
+pub invariant_of-self-2 : goal.invariant_of-self-2
+invariant_of-self-2 g c =
     let h = c.args.self.now in
     let a = call c.args.participant c.args.tenths c.args.members.now in
-    let q = c.in-ok-first.ensures in
-    area_ghosts g.row.PHASE h.buses h.totals c.in-ok-totals.totals (book h.positions) (book h.transactions)
+    let q = c.in_ok-first.ensures in
+    area_ghosts g.row.PHASE h.buses h.totals c.in_ok-totals.totals (book h.positions) (book h.transactions)
     (tallied h) (sound h)
-    a (book c.post-area.new.ledger) (clear_whole (book h.positions) c.args.members.now q.answer) c.in-ok-totals.ensures q.posted.1 (step g (goal.at.invariant-of-self-2 g c).In-ok-first)
+    a (book c.post_area.new.ledger) (clear_whole (book h.positions) c.args.members.now q.answer) c.in_ok-totals.ensures q.posted.1 (step g (goal.at.invariant_of-self-2 g c).In_ok-first)
 
 pub returns : goal.returns
-returns g c = step g (goal.at.returns g c).In-ok-first
+returns g c = step g (goal.at.returns g c).In_ok-first

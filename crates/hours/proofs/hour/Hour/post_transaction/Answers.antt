@@ -13,7 +13,7 @@ use Rattle.register.specs.Views.{phase_of, register}
 use Rattle.register.proofs.Steps.{open_phase, transfer_no_source, transfer_no_sink, transfer_no_participant, transfer_too_much, transfer_nowhere, transfer_fills, transfer_full}
 use Rattle.register.proofs.Ghosts.{transacted_ghosts}
 use Rattle.hours.proofs.hour.Hour.post_transaction.Goals as goal
-use Rattle.hours.proofs.hour.Hour.post_transaction.Goals.{In-ok-number}
+use Rattle.hours.proofs.hour.Hour.post_transaction.Goals.{In_ok-number}
 use Rattle.hours.proofs.hour.Hour.post_transaction.Given as given
 
 abbrev call : ℕ → ℕ → ℕ → ℕ → Transfer
@@ -37,14 +37,14 @@ returns-then-participant-gt-LAST-PARTICIPANT g c =
     let a = call c.args.participant c.args.source c.args.sink c.args.tenths in
     transfer_no_participant (register_of h) (phase_of g.row.PHASE) (open_phase g.row.PHASE h.buses (book h.positions) (book h.transactions) (phased h)) a (c.if-source-self.false, c.if-sink-self.false) c.if-participant-gt-LAST-PARTICIPANT.true
 
-pub returns-in-err-totals : goal.returns-in-err-totals
-returns-in-err-totals g c =
+pub returns-in_err-totals : goal.returns-in_err-totals
+returns-in_err-totals g c =
     let h = c.args.self.now in
     let a = call c.args.participant c.args.source c.args.sink c.args.tenths in
     let r = register_of h in
-    let over = c.in-err-totals.ensures in
+    let over = c.in_err-totals.ensures in
     let is = summed h Transacting in
-    let e = err_from_is_err_and c.from-residual.result c.from-residual.ensures.1 in
+    let e = err_from_is_err_and c.from_residual.result c.from_residual.ensures.1 in
     let step = transfer_too_much r (phase_of g.row.PHASE) (open_phase g.row.PHASE h.buses (book h.positions) (book h.transactions) (phased h)) a (c.if-source-self.false, c.if-sink-self.false) c.if-participant-gt-LAST-PARTICIPANT.false (omega (arith, over.1)) in
     rw (e.1, e.2) (subst (λ (x : Cause). Step r (transfer a) (Refused x) r) (sym over.0) step)
 
@@ -52,39 +52,39 @@ pub returns-then-source-sink : goal.returns-then-source-sink
 returns-then-source-sink g c =
     let h = c.args.self.now in
     let a = call c.args.participant c.args.source c.args.sink c.args.tenths in
-    let fit = c.in-ok-totals.ensures.0 in
+    let fit = c.in_ok-totals.ensures.0 in
     let is = summed h Transacting in
     transfer_nowhere (register_of h) (phase_of g.row.PHASE) (open_phase g.row.PHASE h.buses (book h.positions) (book h.transactions) (phased h)) a (c.if-source-self.false, c.if-sink-self.false) c.if-participant-gt-LAST-PARTICIPANT.false (omega arith) c.if-source-sink.true
 
-pub returns-in-err-number : goal.returns-in-err-number
-returns-in-err-number g c =
+pub returns-in_err-number : goal.returns-in_err-number
+returns-in_err-number g c =
     let h = c.args.self.now in
     let a = call c.args.participant c.args.source c.args.sink c.args.tenths in
-    let fit = c.in-ok-totals.ensures.0 in
+    let fit = c.in_ok-totals.ensures.0 in
     let is = summed h Transacting in
-    let q = c.in-err-number.ensures.posted in
-    let e = err_from_is_err_and c.from-residual-in-err-number.result c.from-residual-in-err-number.ensures.1 in
+    let q = c.in_err-number.ensures.posted in
+    let e = err_from_is_err_and c.from_residual-in_err-number.result c.from_residual-in_err-number.ensures.1 in
     let step = transfer_full g.row.PHASE h.buses (book h.positions) (book h.transactions) (phased h) a (c.if-source-self.false, c.if-sink-self.false) c.if-participant-gt-LAST-PARTICIPANT.false (omega arith) c.if-source-sink.false _ (book c.post.new.self) q.0 q.1 q.2 in
     rw (e.1, e.2) step
 
 -- the step that is taken
-step : (g : given.Over) (c : goal.In-ok-number g) → Step (register_of c.args.self.now) (transfer (call c.args.participant c.args.source c.args.sink c.args.tenths)) (RecordNumber c.in-ok-number.number) (register g.row.PHASE c.args.self.now.buses (book c.args.self.now.positions) (book c.post.new.self))
+step : (g : given.Over) (c : goal.In_ok-number g) → Step (register_of c.args.self.now) (transfer (call c.args.participant c.args.source c.args.sink c.args.tenths)) (RecordNumber c.in_ok-number.number) (register g.row.PHASE c.args.self.now.buses (book c.args.self.now.positions) (book c.post.new.self))
 step g c =
     let h = c.args.self.now in
     let a = call c.args.participant c.args.source c.args.sink c.args.tenths in
-    let fit = c.in-ok-totals.ensures.0 in
+    let fit = c.in_ok-totals.ensures.0 in
     let is = summed h Transacting in
-    let q = c.in-ok-number.ensures.posted in
-    transfer_fills g.row.PHASE h.buses (book h.positions) (book h.transactions) (phased h) a (c.if-source-self.false, c.if-sink-self.false) c.if-participant-gt-LAST-PARTICIPANT.false (omega arith) c.if-source-sink.false c.in-ok-number.number (book c.post.new.self) (marked h).1.0 q.0 q.1 c.new.result c.new.ensures q.2
+    let q = c.in_ok-number.ensures.posted in
+    transfer_fills g.row.PHASE h.buses (book h.positions) (book h.transactions) (phased h) a (c.if-source-self.false, c.if-sink-self.false) c.if-participant-gt-LAST-PARTICIPANT.false (omega arith) c.if-source-sink.false c.in_ok-number.number (book c.post.new.self) (marked h).1.0 q.0 q.1 c.new.result c.new.ensures q.2
 
-pub invariant-of-self-2 : goal.invariant-of-self-2
-invariant-of-self-2 g c =
+pub invariant_of-self-2 : goal.invariant_of-self-2
+invariant_of-self-2 g c =
     let h = c.args.self.now in
-    let q = c.in-ok-number.ensures.posted in
-    transacted_ghosts g.row.PHASE h.buses h.totals c.in-ok-totals.totals (book h.positions) (book h.transactions)
+    let q = c.in_ok-number.ensures.posted in
+    transacted_ghosts g.row.PHASE h.buses h.totals c.in_ok-totals.totals (book h.positions) (book h.transactions)
     (tallied h) (sound h)
     (transaction c.args.participant c.args.source c.args.sink c.args.tenths)
-    (book c.post.new.self) c.in-ok-totals.ensures c.new.result c.new.ensures q.2 (step g (goal.at.invariant-of-self-2 g c).In-ok-number)
+    (book c.post.new.self) c.in_ok-totals.ensures c.new.result c.new.ensures q.2 (step g (goal.at.invariant_of-self-2 g c).In_ok-number)
 
 pub returns : goal.returns
-returns g c = step g (goal.at.returns g c).In-ok-number
+returns g c = step g (goal.at.returns g c).In_ok-number

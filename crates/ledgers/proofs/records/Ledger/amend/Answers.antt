@@ -8,7 +8,7 @@ returns-then-number-self-2 g c =
     let high = c.if-number-self.true in
     let inside = c.if-number-self-2.true in
     record {
-      amended = amends g.P.Position.amended l.records.now l.len l.mark c.args.number c.args.tenths c.index-self-number.result _ c.if-self-number.true (above l.len c.args.number l.records.now high inside) high inside c.with-tenths.ensures;
+      amended = amends g.P.Position.amended l.records.now l.len l.mark c.args.number c.args.tenths c.index-self-number.result _ c.if-self-number.true (above l.len c.args.number l.records.now high inside) high inside c.with_tenths.ensures;
       slice = refl;
     }
 

@@ -5,4 +5,4 @@ use Rattle.ledgers.proofs.records.Ledger.room.Goals as goal
 pub returns : goal.returns
 returns g c =
     let stands = length-take c.args.self.now.len c.args.self.now.records.now in
-    omega (arith, c.saturating-sub.ensures)
+    omega (arith, c.saturating_sub.ensures)

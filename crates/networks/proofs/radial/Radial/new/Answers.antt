@@ -3,10 +3,10 @@ use Rattle.networks.proofs.Refused.{clear_within}
 use Rattle.networks.specs.RadialLimits.{decided, tells}
 use Rattle.networks.proofs.radial.Radial.new.Goals as goal
 
-pub invariant-of-result : goal.invariant-of-result
-invariant-of-result c =
+pub invariant_of-result : goal.invariant_of-result
+invariant_of-result c =
     let w = clear_within _ _ (decided (vec_items c.args.uppers) (vec_items c.args.constraints)) c.requires in
-    (w.buses, (w.falling, (w.constraints, (w.each, tt))))
+    record { buses_most = w.buses; falling = w.falling; constraints_most = w.constraints; constraints_within = w.each }
 
 pub returns : goal.returns
 returns c =

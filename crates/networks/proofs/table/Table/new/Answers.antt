@@ -3,10 +3,18 @@ use Rattle.networks.proofs.Refused.{clear_within}
 use Rattle.networks.specs.TableLimits.{decided, spread_most}
 use Rattle.networks.proofs.table.Table.new.Goals as goal
 
-pub invariant-of-result : goal.invariant-of-result
-invariant-of-result c =
+pub invariant_of-result : goal.invariant_of-result
+invariant_of-result c =
     let n = c.args.buses in
     let ps = vec_items c.args.prices in
     let fs = vec_items c.args.factors in
     let w = clear_within _ _ (decided n ps fs) c.requires in
-    (w.a_bus, (w.buses, (w.constraints, (w.prices, (w.whole, (w.factors, (spread_most n ps fs w, tt)))))))
+    record {
+      a_bus = w.a_bus;
+      buses_most = w.buses;
+      constraints_most = w.constraints;
+      prices_within = w.prices;
+      whole = w.whole;
+      factors_within = w.factors;
+      spread_most = spread_most n ps fs w;
+    }

@@ -16,9 +16,9 @@ step c =
     let t = c.finish-transactions in
     end_step h.buses (book h.positions) (closed_book p.result) (book h.transactions) (closed_book t.result) c.requires p.ensures t.ensures
 
-pub invariant-of-result : goal.invariant-of-result
-invariant-of-result c =
-    let s = step_sound (step (goal.at.invariant-of-result c).After-finish-transactions) (sound c.args.self) in
+pub invariant_of-result : goal.invariant_of-result
+invariant_of-result c =
+    let s = step_sound (step (goal.at.invariant_of-result c).After-finish-transactions) (sound c.args.self) in
     (∣ s ∣₁, tt)
 
 pub returns : goal.returns

@@ -3,8 +3,8 @@ use Rattle.ledgers.specs.Book.{book}
 use Rattle.register.proofs.Closings.{new_ghosts}
 use Rattle.hours.proofs.hour.making.Hour+0.new.Goals as goal
 
-pub invariant-of-result : goal.invariant-of-result
-invariant-of-result c =
+pub invariant_of-result : goal.invariant_of-result
+invariant_of-result c =
     let p = c.new-positions in
     let t = c.new-transactions in
     new_ghosts c.args.buses (length c.args.positions.now) (length c.args.transactions.now) c.none.result (book p.result) (book t.result) c.requires p.ensures.book t.ensures.book c.none.ensures
