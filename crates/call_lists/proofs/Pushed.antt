@@ -1,7 +1,7 @@
 -- A run goes on: one more call at its end. Assumes nothing.
 use Rattle.std.proofs.Common.{◌≡◌, ℕ, suc, ◌+◌, ◌-◌, ◌<◌, ◌≤◌, false, ◌≢◌, List, [], ◌∷◌, ◌++◌, map, length, get_or, take, drop, set, Some, sym, refl, ap, ◌∙◌, subst, append-nil, arith, lit≤, take-add}
 use borrow.Rule.Slice.PartMut.{put_mid}
-use Rattle.std.proofs.lemmas.List.{take_all, drop_all, map_more, map-append, take-append-drop, length-take-le, length-drop, length-append, take-set, take_more_set, drop-set-lt, drop-drop, drop_append_le}
+use Rattle.std.proofs.lemmas.List.{take_all, drop_all, map_more, map-append, take-append-drop, length-take-le, length-drop, length-append, take-set, take_more_set, drop-set-lt, drop-drop, drop-append-le}
 use lib.Seq.{take-append-add}
 use Rattle.call_lists.specs.declared.calls.Call as program
 use Rattle.call_lists.specs.declared.calls.Call.TheVariants.{Close}
@@ -106,7 +106,7 @@ pub rest_twice : (n m : ℕ) (before early late all : List Answer) → n ≤ len
 rest_twice n m before early late all h is back front =
     let long = length-take-le n early h in
     let split : drop n (take n early ++ late) ≡ late =
-    drop_append_le n (take n early) late (omega arith) ∙ ap (λ (xs : List Answer). xs ++ late) (drop_all n (take n early) (omega arith)) in
+    drop-append-le n (take n early) late (omega arith) ∙ ap (λ (xs : List Answer). xs ++ late) (drop_all n (take n early) (omega arith)) in
     sym (drop-drop m n all) ∙ ap (drop m) (ap (drop n) is ∙ split) ∙ back ∙ ap (drop m) front ∙ drop-drop m n before
 
 -- and there are as many answers as before

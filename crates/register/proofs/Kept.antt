@@ -1,6 +1,6 @@
 -- The records of a book in the register, call by call. Assumes nothing.
 use Rattle.std.proofs.Common.{◌≡◌, ℕ, zero, suc, ◌+◌, ◌-◌, ◌<◌, ◌≤◌, List, [], ◌∷◌, ◌++◌, map, length, get_or, take, drop, set, sym, refl, ap, ◌∙◌, subst, append_assoc, arith}
-use Rattle.std.proofs.lemmas.List.{take-append-drop, length-append, length-map, length-take, length-take-le, length-drop, take-append-le, drop_append_le, map-append, take-set-le, drop-set-add, set_split, set-get_or, get_or_at, get_or_append_left, get_or-map}
+use Rattle.std.proofs.lemmas.List.{take-append-drop, length-append, length-map, length-take, length-take-le, length-drop, take-append-le, drop-append-le, map-append, take-set-le, drop-set-add, set_split, set-get_or, get_or_at, get_or_append_left, get_or-map}
 use Rattle.refusals.proofs.Numbers.{at_most}
 use Rattle.ledgers.specs.Book.{Book, holding}
 use Rattle.register.specs.Register.{Kept, Phase, day_ahead, real_time, one_if_phase, Standing, stands, in_phase}
@@ -21,7 +21,7 @@ module _ {P : Type 0} (p : Phase) (b : Book P) where
   pub kept_more : (more : List P) → b.mark ≤ length b.items → kept p (holding b (b.items ++ more)) ≡ kept p b ++ map (in_phase p) more
   kept_more more low =
       let one = take-append-le b.mark b.items more low in
-      let two = drop_append_le b.mark b.items more low in
+      let two = drop-append-le b.mark b.items more low in
       let three = map-append (in_phase p) (drop b.mark b.items) more in
       let four = append_assoc (map (in_phase day_ahead) (take b.mark b.items)) (map (in_phase p) (drop b.mark b.items)) (map (in_phase p) more) in
       ap (λ xs. map (in_phase day_ahead) xs ++ map (in_phase p) (drop b.mark (b.items ++ more))) one

@@ -7,9 +7,9 @@ use Rattle.areas.specs.Areas.{AreaRefused, many_members, no_room}
 use Rattle.areas.proofs.Loads.{area_full, area_apart, area_clear, stands_within}
 use Rattle.areas.proofs.post_area.Goals as goal
 
-pub returns-then-members-gt-MAX-MEMBERS : goal.returns-then-members-gt-MAX-MEMBERS
-returns-then-members-gt-MAX-MEMBERS c =
-    record { answer = area_full (book c.args.ledger.now) c.args.members.now (many_members c.if-members-gt-MAX-MEMBERS.true); posted = refl }
+pub returns-then-members-gt-MAX_MEMBERS : goal.returns-then-members-gt-MAX_MEMBERS
+returns-then-members-gt-MAX_MEMBERS c =
+    record { answer = area_full (book c.args.ledger.now) c.args.members.now (many_members c.if-members-gt-MAX_MEMBERS.true); posted = refl }
 
 pub returns-then-members-room : goal.returns-then-members-room
 returns-then-members-room c =
@@ -27,7 +27,7 @@ returns-in_err-weigh_shares c =
     let q = c.in_err-weigh_shares.ensures in
     let e = err_from_is_err_and c.from_residual.result c.from_residual.ensures.1 in
     rw (e.1, e.2) (record {
-      answer = subst (λ (x : Cause). First (AreaRefused (book l) ms) x) (sym q.0) (area_apart (book l) ms c.if-members-gt-MAX-MEMBERS.false (omega arith) q.1);
+      answer = subst (λ (x : Cause). First (AreaRefused (book l) ms) x) (sym q.0) (area_apart (book l) ms c.if-members-gt-MAX_MEMBERS.false (omega arith) q.1);
       posted = refl;
     })
 
@@ -36,7 +36,7 @@ post_shares-requires c =
     let l = c.args.ledger.now in
     let left = c.room.ensures in
     let inside = stands_within l.len l.records.now in
-    record { whole = c.in_ok-weigh_shares.ensures; room = omega arith; few = c.if-members-gt-MAX-MEMBERS.false }
+    record { whole = c.in_ok-weigh_shares.ensures; room = omega arith; few = c.if-members-gt-MAX_MEMBERS.false }
 
 pub returns : goal.returns
 returns c =
@@ -44,6 +44,6 @@ returns c =
     let left = c.room.ensures in
     let inside = stands_within l.len l.records.now in
     record {
-      answer = area_clear (book l) c.args.members.now c.if-members-gt-MAX-MEMBERS.false (omega arith) c.in_ok-weigh_shares.ensures;
+      answer = area_clear (book l) c.args.members.now c.if-members-gt-MAX_MEMBERS.false (omega arith) c.in_ok-weigh_shares.ensures;
       posted = (c.count-first.ensures, c.post_shares.ensures);
     }

@@ -9,11 +9,11 @@ returns-then-class-eq1 c = names_load (phase_of c.args.closings) c.args.class c.
 pub returns-then-class-eq3 : goal.returns-then-class-eq3
 returns-then-class-eq3 c = names_generation (phase_of c.args.closings) c.args.class c.if-class-eq3.true
 
-pub returns-then-closings-eq-DAY-AHEAD : goal.returns-then-closings-eq-DAY-AHEAD
-returns-then-closings-eq-DAY-AHEAD c = names_decrement c.args.closings c.args.class c.if-closings-eq-DAY-AHEAD.true c.if-class-eq2.true
+pub returns-then-closings-eq-DAY_AHEAD : goal.returns-then-closings-eq-DAY_AHEAD
+returns-then-closings-eq-DAY_AHEAD c = names_decrement c.args.closings c.args.class c.if-closings-eq-DAY_AHEAD.true c.if-class-eq2.true
 
-pub returns-then-closings-eq-DAY-AHEAD-2 : goal.returns-then-closings-eq-DAY-AHEAD-2
-returns-then-closings-eq-DAY-AHEAD-2 c = names_increment c.args.closings c.args.class c.if-closings-eq-DAY-AHEAD-2.true c.if-class-eq4.true
+pub returns-then-closings-eq-DAY_AHEAD-2 : goal.returns-then-closings-eq-DAY_AHEAD-2
+returns-then-closings-eq-DAY_AHEAD-2 c = names_increment c.args.closings c.args.class c.if-closings-eq-DAY_AHEAD-2.true c.if-class-eq4.true
 
 pub returns : goal.returns
 returns c =

@@ -26,17 +26,17 @@ returns-then-bus-self g c =
     let a = call c.args.participant c.args.class c.args.bus c.args.tenths in
     post_no_bus (register_of h) (phase_of g.row.PHASE) (open_phase g.row.PHASE h.buses (book h.positions) (book h.transactions) (phased h)) a c.if-bus-self.true
 
-pub returns-then-participant-gt-LAST-PARTICIPANT : goal.returns-then-participant-gt-LAST-PARTICIPANT
-returns-then-participant-gt-LAST-PARTICIPANT g c =
+pub returns-then-participant-gt-LAST_PARTICIPANT : goal.returns-then-participant-gt-LAST_PARTICIPANT
+returns-then-participant-gt-LAST_PARTICIPANT g c =
     let h = c.args.self.now in
     let a = call c.args.participant c.args.class c.args.bus c.args.tenths in
-    post_no_participant (register_of h) (phase_of g.row.PHASE) (open_phase g.row.PHASE h.buses (book h.positions) (book h.transactions) (phased h)) a c.if-bus-self.false c.if-participant-gt-LAST-PARTICIPANT.true
+    post_no_participant (register_of h) (phase_of g.row.PHASE) (open_phase g.row.PHASE h.buses (book h.positions) (book h.transactions) (phased h)) a c.if-bus-self.false c.if-participant-gt-LAST_PARTICIPANT.true
 
 pub returns-in_default : goal.returns-in_default
 returns-in_default g c =
     let h = c.args.self.now in
     let a = call c.args.participant c.args.class c.args.bus c.args.tenths in
-    post_no_class (register_of h) (phase_of g.row.PHASE) (open_phase g.row.PHASE h.buses (book h.positions) (book h.transactions) (phased h)) a c.if-bus-self.false c.if-participant-gt-LAST-PARTICIPANT.false c.in_default.ensures
+    post_no_class (register_of h) (phase_of g.row.PHASE) (open_phase g.row.PHASE h.buses (book h.positions) (book h.transactions) (phased h)) a c.if-bus-self.false c.if-participant-gt-LAST_PARTICIPANT.false c.in_default.ensures
 
 pub returns-in_err-totals : goal.returns-in_err-totals
 returns-in_err-totals g c =
@@ -46,7 +46,7 @@ returns-in_err-totals g c =
     let over = c.in_err-totals.ensures in
     let is = ap (of_side h.totals) c.side.ensures ∙ summed h (side_of c.in-Some.class) in
     let e = err_from_is_err_and c.from_residual.result c.from_residual.ensures.1 in
-    let step = post_too_much r (phase_of g.row.PHASE) (open_phase g.row.PHASE h.buses (book h.positions) (book h.transactions) (phased h)) a c.if-bus-self.false c.if-participant-gt-LAST-PARTICIPANT.false c.in-Some.class c.in-Some.ensures (omega (arith, over.1)) in
+    let step = post_too_much r (phase_of g.row.PHASE) (open_phase g.row.PHASE h.buses (book h.positions) (book h.transactions) (phased h)) a c.if-bus-self.false c.if-participant-gt-LAST_PARTICIPANT.false c.in-Some.class c.in-Some.ensures (omega (arith, over.1)) in
     rw (e.1, e.2) (subst (λ (x : Cause). Step r (post a) (Refused x) r) (sym over.0) step)
 
 pub returns-in_err-number : goal.returns-in_err-number
@@ -57,7 +57,7 @@ returns-in_err-number g c =
     let is = ap (of_side h.totals) c.side.ensures ∙ summed h (side_of c.in-Some.class) in
     let q = c.in_err-number.ensures.posted in
     let e = err_from_is_err_and c.from_residual-in_err-number.result c.from_residual-in_err-number.ensures.1 in
-    let step = post_full g.row.PHASE h.buses (book h.positions) (book h.transactions) (phased h) a c.if-bus-self.false c.if-participant-gt-LAST-PARTICIPANT.false c.in-Some.class c.in-Some.ensures (omega arith) _ (book c.post.new.self) q.0 q.1 q.2 in
+    let step = post_full g.row.PHASE h.buses (book h.positions) (book h.transactions) (phased h) a c.if-bus-self.false c.if-participant-gt-LAST_PARTICIPANT.false c.in-Some.class c.in-Some.ensures (omega arith) _ (book c.post.new.self) q.0 q.1 q.2 in
     rw (e.1, e.2) step
 
 -- the step that is taken
@@ -68,7 +68,7 @@ step g c =
     let fit = c.in_ok-totals.ensures.0 in
     let is = ap (of_side h.totals) c.side.ensures ∙ summed h (side_of c.in-Some.class) in
     let q = c.in_ok-number.ensures.posted in
-    post_fills g.row.PHASE h.buses (book h.positions) (book h.transactions) (phased h) a c.if-bus-self.false c.if-participant-gt-LAST-PARTICIPANT.false c.in-Some.class c.in-Some.ensures (omega arith) c.in_ok-number.number (book c.post.new.self) (marked h).0.0 q.0 q.1 c.new.result c.new.ensures q.2
+    post_fills g.row.PHASE h.buses (book h.positions) (book h.transactions) (phased h) a c.if-bus-self.false c.if-participant-gt-LAST_PARTICIPANT.false c.in-Some.class c.in-Some.ensures (omega arith) c.in_ok-number.number (book c.post.new.self) (marked h).0.0 q.0 q.1 c.new.result c.new.ensures q.2
 
 pub invariant_of-self-2 : goal.invariant_of-self-2
 invariant_of-self-2 g c =

@@ -30,11 +30,11 @@ returns-in_err-weigh_members g c =
     let step = area_no_bus r (phase_of g.row.PHASE) (open_phase g.row.PHASE h.buses (book h.positions) (book h.transactions) (phased h)) a q.1.0 q.1.1 q.1.2 in
     rw (e.1, e.2) (subst (λ (x : Cause). Step r (area a) (Refused x) r) (sym q.0) step)
 
-pub returns-then-participant-gt-LAST-PARTICIPANT : goal.returns-then-participant-gt-LAST-PARTICIPANT
-returns-then-participant-gt-LAST-PARTICIPANT g c =
+pub returns-then-participant-gt-LAST_PARTICIPANT : goal.returns-then-participant-gt-LAST_PARTICIPANT
+returns-then-participant-gt-LAST_PARTICIPANT g c =
     let h = c.args.self.now in
     let a = call c.args.participant c.args.tenths c.args.members.now in
-    area_no_participant (register_of h) (phase_of g.row.PHASE) (open_phase g.row.PHASE h.buses (book h.positions) (book h.transactions) (phased h)) a c.in_ok-weigh_members.ensures c.if-participant-gt-LAST-PARTICIPANT.true
+    area_no_participant (register_of h) (phase_of g.row.PHASE) (open_phase g.row.PHASE h.buses (book h.positions) (book h.transactions) (phased h)) a c.in_ok-weigh_members.ensures c.if-participant-gt-LAST_PARTICIPANT.true
 
 pub returns-in_err-totals : goal.returns-in_err-totals
 returns-in_err-totals g c =
@@ -44,7 +44,7 @@ returns-in_err-totals g c =
     let over = c.in_err-totals.ensures in
     let is = summed h Withdrawing in
     let e = err_from_is_err_and c.from_residual-in_err-totals.result c.from_residual-in_err-totals.ensures.1 in
-    let step = area_too_much r (phase_of g.row.PHASE) (open_phase g.row.PHASE h.buses (book h.positions) (book h.transactions) (phased h)) a c.in_ok-weigh_members.ensures c.if-participant-gt-LAST-PARTICIPANT.false (omega (arith, over.1)) in
+    let step = area_too_much r (phase_of g.row.PHASE) (open_phase g.row.PHASE h.buses (book h.positions) (book h.transactions) (phased h)) a c.in_ok-weigh_members.ensures c.if-participant-gt-LAST_PARTICIPANT.false (omega (arith, over.1)) in
     rw (e.1, e.2) (subst (λ (x : Cause). Step r (area a) (Refused x) r) (sym over.0) step)
 
 -- what the areas' own call refused
@@ -56,7 +56,7 @@ returns-in_err-first g c =
     let is = summed h Withdrawing in
     let q = c.in_err-first.ensures in
     let e = err_from_is_err_and c.from_residual-in_err-first.result c.from_residual-in_err-first.ensures.1 in
-    let step = area_unposted g.row.PHASE h.buses (book h.positions) (book h.transactions) (phased h) a c.in_ok-weigh_members.ensures c.if-participant-gt-LAST-PARTICIPANT.false (omega arith) (sized h).0 _ (book c.post_area.new.ledger) q.answer q.posted in
+    let step = area_unposted g.row.PHASE h.buses (book h.positions) (book h.transactions) (phased h) a c.in_ok-weigh_members.ensures c.if-participant-gt-LAST_PARTICIPANT.false (omega arith) (sized h).0 _ (book c.post_area.new.ledger) q.answer q.posted in
     rw (e.1, e.2) step
 
 -- the step that is taken
@@ -68,7 +68,7 @@ step g c =
     let fit = c.in_ok-totals.ensures.0 in
     let is = summed h Withdrawing in
     let q = c.in_ok-first.ensures in
-    area_fills g.row.PHASE h.buses (book h.positions) (book h.transactions) (phased h) a c.in_ok-weigh_members.ensures c.if-participant-gt-LAST-PARTICIPANT.false (omega arith) (clear_room (book h.positions) ms q.answer) (clear_whole (book h.positions) ms q.answer) c.in_ok-first.first (book c.post_area.new.ledger) (marked h).0.0 q.posted.0 q.posted.1
+    area_fills g.row.PHASE h.buses (book h.positions) (book h.transactions) (phased h) a c.in_ok-weigh_members.ensures c.if-participant-gt-LAST_PARTICIPANT.false (omega arith) (clear_room (book h.positions) ms q.answer) (clear_whole (book h.positions) ms q.answer) c.in_ok-first.first (book c.post_area.new.ledger) (marked h).0.0 q.posted.0 q.posted.1
 
 pub invariant_of-self-2 : goal.invariant_of-self-2
 invariant_of-self-2 g c =

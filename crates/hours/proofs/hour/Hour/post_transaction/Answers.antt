@@ -31,11 +31,11 @@ returns-then-sink-self g c =
     let a = call c.args.participant c.args.source c.args.sink c.args.tenths in
     transfer_no_sink (register_of h) (phase_of g.row.PHASE) (open_phase g.row.PHASE h.buses (book h.positions) (book h.transactions) (phased h)) a c.if-sink-self.true
 
-pub returns-then-participant-gt-LAST-PARTICIPANT : goal.returns-then-participant-gt-LAST-PARTICIPANT
-returns-then-participant-gt-LAST-PARTICIPANT g c =
+pub returns-then-participant-gt-LAST_PARTICIPANT : goal.returns-then-participant-gt-LAST_PARTICIPANT
+returns-then-participant-gt-LAST_PARTICIPANT g c =
     let h = c.args.self.now in
     let a = call c.args.participant c.args.source c.args.sink c.args.tenths in
-    transfer_no_participant (register_of h) (phase_of g.row.PHASE) (open_phase g.row.PHASE h.buses (book h.positions) (book h.transactions) (phased h)) a (c.if-source-self.false, c.if-sink-self.false) c.if-participant-gt-LAST-PARTICIPANT.true
+    transfer_no_participant (register_of h) (phase_of g.row.PHASE) (open_phase g.row.PHASE h.buses (book h.positions) (book h.transactions) (phased h)) a (c.if-source-self.false, c.if-sink-self.false) c.if-participant-gt-LAST_PARTICIPANT.true
 
 pub returns-in_err-totals : goal.returns-in_err-totals
 returns-in_err-totals g c =
@@ -45,7 +45,7 @@ returns-in_err-totals g c =
     let over = c.in_err-totals.ensures in
     let is = summed h Transacting in
     let e = err_from_is_err_and c.from_residual.result c.from_residual.ensures.1 in
-    let step = transfer_too_much r (phase_of g.row.PHASE) (open_phase g.row.PHASE h.buses (book h.positions) (book h.transactions) (phased h)) a (c.if-source-self.false, c.if-sink-self.false) c.if-participant-gt-LAST-PARTICIPANT.false (omega (arith, over.1)) in
+    let step = transfer_too_much r (phase_of g.row.PHASE) (open_phase g.row.PHASE h.buses (book h.positions) (book h.transactions) (phased h)) a (c.if-source-self.false, c.if-sink-self.false) c.if-participant-gt-LAST_PARTICIPANT.false (omega (arith, over.1)) in
     rw (e.1, e.2) (subst (λ (x : Cause). Step r (transfer a) (Refused x) r) (sym over.0) step)
 
 pub returns-then-source-sink : goal.returns-then-source-sink
@@ -54,7 +54,7 @@ returns-then-source-sink g c =
     let a = call c.args.participant c.args.source c.args.sink c.args.tenths in
     let fit = c.in_ok-totals.ensures.0 in
     let is = summed h Transacting in
-    transfer_nowhere (register_of h) (phase_of g.row.PHASE) (open_phase g.row.PHASE h.buses (book h.positions) (book h.transactions) (phased h)) a (c.if-source-self.false, c.if-sink-self.false) c.if-participant-gt-LAST-PARTICIPANT.false (omega arith) c.if-source-sink.true
+    transfer_nowhere (register_of h) (phase_of g.row.PHASE) (open_phase g.row.PHASE h.buses (book h.positions) (book h.transactions) (phased h)) a (c.if-source-self.false, c.if-sink-self.false) c.if-participant-gt-LAST_PARTICIPANT.false (omega arith) c.if-source-sink.true
 
 pub returns-in_err-number : goal.returns-in_err-number
 returns-in_err-number g c =
@@ -64,7 +64,7 @@ returns-in_err-number g c =
     let is = summed h Transacting in
     let q = c.in_err-number.ensures.posted in
     let e = err_from_is_err_and c.from_residual-in_err-number.result c.from_residual-in_err-number.ensures.1 in
-    let step = transfer_full g.row.PHASE h.buses (book h.positions) (book h.transactions) (phased h) a (c.if-source-self.false, c.if-sink-self.false) c.if-participant-gt-LAST-PARTICIPANT.false (omega arith) c.if-source-sink.false _ (book c.post.new.self) q.0 q.1 q.2 in
+    let step = transfer_full g.row.PHASE h.buses (book h.positions) (book h.transactions) (phased h) a (c.if-source-self.false, c.if-sink-self.false) c.if-participant-gt-LAST_PARTICIPANT.false (omega arith) c.if-source-sink.false _ (book c.post.new.self) q.0 q.1 q.2 in
     rw (e.1, e.2) step
 
 -- the step that is taken
@@ -75,7 +75,7 @@ step g c =
     let fit = c.in_ok-totals.ensures.0 in
     let is = summed h Transacting in
     let q = c.in_ok-number.ensures.posted in
-    transfer_fills g.row.PHASE h.buses (book h.positions) (book h.transactions) (phased h) a (c.if-source-self.false, c.if-sink-self.false) c.if-participant-gt-LAST-PARTICIPANT.false (omega arith) c.if-source-sink.false c.in_ok-number.number (book c.post.new.self) (marked h).1.0 q.0 q.1 c.new.result c.new.ensures q.2
+    transfer_fills g.row.PHASE h.buses (book h.positions) (book h.transactions) (phased h) a (c.if-source-self.false, c.if-sink-self.false) c.if-participant-gt-LAST_PARTICIPANT.false (omega arith) c.if-source-sink.false c.in_ok-number.number (book c.post.new.self) (marked h).1.0 q.0 q.1 c.new.result c.new.ensures q.2
 
 pub invariant_of-self-2 : goal.invariant_of-self-2
 invariant_of-self-2 g c =
