@@ -32,10 +32,10 @@ Tallied k n t b d = (k < 2) × ((Marked k b × Marked k d) × (Summed t (registe
 
 -- the ghost field of an hour
 abbrev pub Ghosts : ℕ → ℕ → Totals → Book BusPosition → Book Transaction → Type 0
-Ghosts k n t b d = ∥ Lawful k n t b d ∥₁ × Unit {0}
+Ghosts k n t b d = ∥ Lawful k n t b d ∥₁
 
 pub with_sound : (k n : ℕ) (t : Totals) (b : Book BusPosition) (d : Book Transaction) → Tallied k n t b d → Sound (register k n b d) → Ghosts k n t b d
-with_sound k n t b d g sound = (∣ record { phased = g.0; marked = g.1.0; summed = g.1.1.0; sized = g.1.1.1; sound = sound } ∣₁, tt)
+with_sound k n t b d g sound = ∣ record { phased = g.0; marked = g.1.0; summed = g.1.1.0; sized = g.1.1.1; sound = sound } ∣₁
 
 -- and back: each of its parts is a fact that holds in one way only
 pub tallied_of : (k n : ℕ) (t : Totals) (b : Book BusPosition) (d : Book Transaction) → ∥ Lawful k n t b d ∥₁ → Tallied k n t b d

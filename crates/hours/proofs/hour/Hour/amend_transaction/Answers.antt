@@ -55,10 +55,12 @@ invariant_of-self-2 g c =
     let at_i = c.in-Some.ensures in
     let old = c.in-Some.old in
     let changed = c.in_ok-amend.ensures.amended.2 old in
-    amended_transaction_ghosts g.row.PHASE h.buses h.totals c.in_ok-totals.totals (book h.positions) (book h.transactions)
-    (tallied h) (sound h)
-    c.args.«record» c.args.tenths c.tenths.result old (book c.amend.new.self)
-    at_i.0 at_i.1 (at_i.2 old) c.tenths.ensures (subst (λ (s : Side). Amended h.totals s c.tenths.result c.args.tenths (Ok c.in_ok-totals.totals)) c.side.ensures c.in_ok-totals.ensures) changed (step g (goal.at.invariant_of-self-2 g c).In_ok-amend)
+    record {
+      lawful = amended_transaction_ghosts g.row.PHASE h.buses h.totals c.in_ok-totals.totals (book h.positions) (book h.transactions)
+          (tallied h) (sound h)
+          c.args.«record» c.args.tenths c.tenths.result old (book c.amend.new.self)
+          at_i.0 at_i.1 (at_i.2 old) c.tenths.ensures (subst (λ (s : Side). Amended h.totals s c.tenths.result c.args.tenths (Ok c.in_ok-totals.totals)) c.side.ensures c.in_ok-totals.ensures) changed (step g (goal.at.invariant_of-self-2 g c).In_ok-amend);
+    }
 
 pub returns : goal.returns
 returns g c = step g (goal.at.returns g c).In_ok-amend

@@ -74,10 +74,12 @@ pub invariant_of-self-2 : goal.invariant_of-self-2
 invariant_of-self-2 g c =
     let h = c.args.self.now in
     let q = c.in_ok-number.ensures.posted in
-    posted_ghosts g.row.PHASE h.buses h.totals c.in_ok-totals.totals (book h.positions) (book h.transactions)
-    (tallied h) (sound h)
-    (position c.args.participant c.in-Some.class c.args.bus c.args.tenths)
-    c.side.result (book c.post.new.self) c.side.ensures c.in_ok-totals.ensures c.new.result c.new.ensures q.2 (step g (goal.at.invariant_of-self-2 g c).In_ok-number)
+    record {
+      lawful = posted_ghosts g.row.PHASE h.buses h.totals c.in_ok-totals.totals (book h.positions) (book h.transactions)
+          (tallied h) (sound h)
+          (position c.args.participant c.in-Some.class c.args.bus c.args.tenths)
+          c.side.result (book c.post.new.self) c.side.ensures c.in_ok-totals.ensures c.new.result c.new.ensures q.2 (step g (goal.at.invariant_of-self-2 g c).In_ok-number);
+    }
 
 pub returns : goal.returns
 returns g c = step g (goal.at.returns g c).In_ok-number

@@ -75,9 +75,11 @@ invariant_of-self-2 g c =
     let h = c.args.self.now in
     let a = call c.args.participant c.args.tenths c.args.members.now in
     let q = c.in_ok-first.ensures in
-    area_ghosts g.row.PHASE h.buses h.totals c.in_ok-totals.totals (book h.positions) (book h.transactions)
-    (tallied h) (sound h)
-    a (book c.post_area.new.ledger) (clear_whole (book h.positions) c.args.members.now q.answer) c.in_ok-totals.ensures q.posted.1 (step g (goal.at.invariant_of-self-2 g c).In_ok-first)
+    record {
+      lawful = area_ghosts g.row.PHASE h.buses h.totals c.in_ok-totals.totals (book h.positions) (book h.transactions)
+          (tallied h) (sound h)
+          a (book c.post_area.new.ledger) (clear_whole (book h.positions) c.args.members.now q.answer) c.in_ok-totals.ensures q.posted.1 (step g (goal.at.invariant_of-self-2 g c).In_ok-first);
+    }
 
 pub returns : goal.returns
 returns g c = step g (goal.at.returns g c).In_ok-first

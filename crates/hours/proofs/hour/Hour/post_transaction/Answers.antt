@@ -81,10 +81,12 @@ pub invariant_of-self-2 : goal.invariant_of-self-2
 invariant_of-self-2 g c =
     let h = c.args.self.now in
     let q = c.in_ok-number.ensures.posted in
-    transacted_ghosts g.row.PHASE h.buses h.totals c.in_ok-totals.totals (book h.positions) (book h.transactions)
-    (tallied h) (sound h)
-    (transaction c.args.participant c.args.source c.args.sink c.args.tenths)
-    (book c.post.new.self) c.in_ok-totals.ensures c.new.result c.new.ensures q.2 (step g (goal.at.invariant_of-self-2 g c).In_ok-number)
+    record {
+      lawful = transacted_ghosts g.row.PHASE h.buses h.totals c.in_ok-totals.totals (book h.positions) (book h.transactions)
+          (tallied h) (sound h)
+          (transaction c.args.participant c.args.source c.args.sink c.args.tenths)
+          (book c.post.new.self) c.in_ok-totals.ensures c.new.result c.new.ensures q.2 (step g (goal.at.invariant_of-self-2 g c).In_ok-number);
+    }
 
 pub returns : goal.returns
 returns g c = step g (goal.at.returns g c).In_ok-number

@@ -19,7 +19,7 @@ step c =
 pub invariant_of-result : goal.invariant_of-result
 invariant_of-result c =
     let s = step_sound (step (goal.at.invariant_of-result c).After-finish-transactions) (sound c.args.self) in
-    (∣ s ∣₁, tt)
+    record { sound = ∣ s ∣₁ }
 
 pub returns : goal.returns
 returns c = step (goal.at.returns c).After-finish-transactions

@@ -7,4 +7,4 @@ pub invariant_of-result : goal.invariant_of-result
 invariant_of-result c =
     let p = c.new-positions in
     let t = c.new-transactions in
-    new_ghosts c.args.buses (length c.args.positions.now) (length c.args.transactions.now) c.none.result (book p.result) (book t.result) c.requires p.ensures.book t.ensures.book c.none.ensures
+    record { lawful = new_ghosts c.args.buses (length c.args.positions.now) (length c.args.transactions.now) c.none.result (book p.result) (book t.result) c.requires p.ensures.book t.ensures.book c.none.ensures }
