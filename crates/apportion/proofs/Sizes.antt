@@ -1,5 +1,5 @@
 -- How large the numbers of a split get. Assumes nothing.
-use Rattle.std.proofs.Common.{◌≡◌, ℕ, ◌^◌, ◌<◌, ◌≤◌, ℤ, pos, negsuc, ◌-ℤ◌, ◌*ℤ◌, nat_abs, subst, arith, lit<, w64, SFits}
+use Rattle.std.proofs.Common.{◌≡◌, ℕ, ◌^◌, ◌<◌, ◌≤◌, ℤ, pos, negsuc, ◌-ℤ◌, ◌*ℤ◌, subst, arith, lit<, w64, SFits}
 use borrow.Author.Differences.{ints}
 use mir.Syntax.{Width, w128}
 use Rattle.quantities.specs.Rounding.{floor}

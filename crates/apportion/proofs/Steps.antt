@@ -1,5 +1,5 @@
 -- The steps of the two loops over items. Assumes nothing.
-use Rattle.std.proofs.Common.{◌≡◌, ℕ, ◌+◌, ◌<◌, List, map, length, get_or, sym, ap, ◌∙◌, arith}
+use Rattle.std.proofs.Common.{◌≡◌, ℕ, ◌+◌, ◌<◌, List, map, length, get_or, sym, ap, ◌∙◌}
 use Rattle.std.proofs.lemmas.List.{get_or-map, length-map}
 use Rattle.quantities.specs.Sums.{sumℕ, atℕ}
 use Rattle.quantities.proofs.SumLaws.{sumℕ_more}

@@ -1,5 +1,5 @@
 -- Splits that follow from the definitions. Assumes nothing.
-use Rattle.std.specs.Prelude.{◌≡◌, List, [], ◌∷◌, map, ℤ, pos, negsuc}
+use Rattle.std.specs.Prelude.{◌≡◌, [], ◌∷◌, map, pos, negsuc}
 use Rattle.quantities.specs.declared.kinds.Megawatts.{Megawatts}
 use Rattle.quantities.specs.Views.{cents}
 use Rattle.apportion.specs.declared.worked.WorkedSplits.{WorkedSplits}

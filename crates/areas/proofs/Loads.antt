@@ -1,5 +1,5 @@
 -- The loads of an area: how they are posted, and when they are refused. Assumes nothing.
-use Rattle.std.proofs.Common.{◌≡◌, ℕ, ◌+◌, ◌<◌, ◌≤◌, List, [], ◌∷◌, ◌++◌, length, get_or, take, drop, ℤ, pos, Ok, Err, Result, sym, refl, ap, ◌∙◌, subst, ⊎_elim, append_assoc, append-nil, arith, MatchResult}
+use Rattle.std.proofs.Common.{◌≡◌, ℕ, ◌+◌, ◌<◌, ◌≤◌, List, [], ◌∷◌, ◌++◌, length, get_or, take, drop, ℤ, pos, Ok, Err, Result, sym, refl, ap, ◌∙◌, ⊎_elim, append_assoc, append-nil, arith, MatchResult}
 use Rattle.std.proofs.lemmas.List.{drop_more, drop_all, length-append, length-map, length-take, length-drop}
 use Rattle.std.proofs.lemmas.Bool.{cases_eq}
 use Rattle.refusals.proofs.Numbers.{at_most, none_holds}
@@ -16,7 +16,7 @@ use Rattle.apportion.proofs.Refused.{split_never}
 use Rattle.ledgers.specs.Book.{Book, Appended, holding}
 use Rattle.positions.specs.declared.bus_positions.BusPosition.{BusPosition}
 use Rattle.positions.specs.declared.classes.Class.TheVariants.{Load}
-use Rattle.areas.specs.Areas.{shares_by, nowhere, loads, units, AreaRefused, many_members, no_room, not_whole}
+use Rattle.areas.specs.Areas.{shares_by, loads, units, AreaRefused, many_members, no_room, not_whole}
 
 -- where there is room, a record is posted
 pub posted_room : {P : Type 0} (b k : Book P) (p : P) (r : Result ℕ Cause) → Appended b p r k → length b.items < b.capacity → k ≡ holding b (b.items ++ (p ∷ []))

@@ -8,7 +8,7 @@ use Rattle.register.specs.declared.answers.Answer.TheVariants.{Taken}
 use Rattle.call_lists.specs.declared.calls.Call as program
 use Rattle.call_lists.specs.declared.calls.Call.TheVariants.{Post, PostTransaction, PostArea, AmendPosition, AmendTransaction, Close}
 use Rattle.call_lists.specs.declared.Progress.{Progress}
-use Rattle.register.specs.Register.{Register, Phase, Call, amend_position, amend_transaction, close, Holds, Step, Run, fresh}
+use Rattle.register.specs.Register.{Register, Phase, Call, amend_position, amend_transaction, close, Holds, Step, Run}
 use Rattle.register.specs.Views.{posting, transferring, spreading}
 use Rattle.register.specs.Weighed.{MakingRefused}
 

@@ -2,7 +2,7 @@
 use mathlib.Core.Logic.{∥∥₁_elim}
 use Rattle.std.proofs.Common.{ℕ, ◌<◌}
 use denote.Struct.Props.{props}
-use Rattle.ledgers.specs.Book.{book, closed_book}
+use Rattle.ledgers.specs.Book.{book}
 use Rattle.register.specs.Sound.{Sound}
 use Rattle.register.specs.Views.{phase_of, Marked, Summed, Sized}
 use Rattle.register.proofs.Ghosts.{Tallied, tallied_of, sound_of}

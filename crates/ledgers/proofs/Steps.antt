@@ -1,8 +1,8 @@
 -- One call of the ledger, over the list that the lent slice holds. Assumes nothing.
-use Rattle.std.proofs.Common.{◌≡◌, ℕ, ◌+◌, ◌-◌, ◌<◌, ◌≤◌, List, [], ◌∷◌, ◌++◌, length, get_or, take, set, Ok, Err, sym, refl, ap, ◌∙◌, arith}
+use Rattle.std.proofs.Common.{◌≡◌, ℕ, ◌+◌, ◌<◌, ◌≤◌, List, length, get_or, take, set, Ok, Err, sym, refl, ap, arith}
 use lib.Seq.{take-set-lt}
 use Rattle.std.proofs.lemmas.List.{length-set, length-take, length-take-le, take_all, take_more_set, get_or-take, get_or_default}
-use Rattle.refusals.specs.declared.Cause.TheVariants.{LedgerFull, RecordNotOpen}
+use Rattle.refusals.specs.declared.Cause.TheVariants.{LedgerFull}
 use Rattle.ledgers.specs.Book.{Appended, Amended, front_book}
 
 module _ {P : Type 0} (xs : List P) (n : ℕ) where

@@ -1,5 +1,5 @@
 -- What a bus position and a transaction mean, and what amending them gives. Assumes nothing.
-use Rattle.std.specs.Prelude.{List, ◌++◌, map, ℕ, ◌*◌, ℤ, pos, ◌-ℤ◌, ◌*ℤ◌, nat_abs}
+use Rattle.std.specs.Prelude.{List, ◌++◌, map, ℕ, ◌*◌, pos, ◌-ℤ◌, ◌*ℤ◌, nat_abs}
 use Rattle.quantities.specs.Sums.{same}
 use Rattle.quantities.specs.declared.kinds.Megawatts.{Megawatts}
 use Rattle.positions.specs.Classes.{side_of, withdrawn, injected, net_withdrawal, loaded}

@@ -1,5 +1,5 @@
 -- Quotients rounded down, and roundings that are carried on from one amount to the next. Assumes nothing.
-use Rattle.std.specs.Prelude.{◌≡◌, ℕ, suc, ◌/◌, List, length, ℤ, pos, negsuc, ◌+ℤ◌, ◌-ℤ◌, ◌*ℤ◌, ◌≤ℤ◌, ◌<ℤ◌}
+use Rattle.std.specs.Prelude.{ℕ, suc, ◌/◌, List, length, ℤ, pos, negsuc, ◌+ℤ◌, ◌-ℤ◌, ◌*ℤ◌, ◌≤ℤ◌, ◌<ℤ◌}
 use Rattle.quantities.specs.Sums.{sum, at, row_of}
 
 -- z / d, rounded down; -(a + 1) / d is -(a / d + 1)

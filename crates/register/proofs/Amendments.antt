@@ -1,5 +1,5 @@
 -- An amendment as a step of the register. Assumes nothing.
-use Rattle.std.proofs.Common.{◌≡◌, ℕ, zero, suc, ◌+◌, ◌-◌, ◌*◌, ◌<◌, ◌≤◌, List, [], ◌∷◌, ◌++◌, length, get_or, set, Ok, sym, refl, ap, ◌∙◌, subst, arith}
+use Rattle.std.proofs.Common.{◌≡◌, ℕ, ◌+◌, ◌-◌, ◌*◌, ◌<◌, ◌≤◌, List, ◌∷◌, ◌++◌, length, get_or, set, Ok, sym, ap, ◌∙◌, subst, arith}
 use Rattle.std.proofs.lemmas.List.{length-set}
 use Rattle.quantities.specs.Sums.{count_of}
 use Rattle.quantities.proofs.SumLaws.{count_middle}
@@ -17,8 +17,8 @@ use Rattle.register.specs.declared.answers.Answer.{Answer}
 use Rattle.register.specs.declared.answers.Answer.TheVariants.{Taken, Refused}
 use Rattle.register.specs.declared.totals.Totals.{Totals}
 use Rattle.register.specs.Totals.{of_side, with_side, Amended}
-use Rattle.refusals.specs.Answers.{Clear, First}
-use Rattle.register.specs.Register.{Register, Kept, Phase, Call, Open, Standing, stands, amend_position, amend_transaction, Holds, amend_absent, amend_total, amend_transaction_absent, amend_transaction_total, total, Takes, amends, amends_transaction, Step, took, stood, with_positions, with_transactions, in_phase, one_position, one_transaction}
+use Rattle.refusals.specs.Answers.{Clear}
+use Rattle.register.specs.Register.{Register, Kept, Phase, Call, Standing, stands, amend_position, amend_transaction, Holds, amend_absent, amend_total, amend_transaction_absent, amend_transaction_total, total, amends, amends_transaction, Step, took, stood, with_positions, with_transactions, in_phase, one_position, one_transaction}
 use Rattle.register.specs.Sound.{Sound}
 use Rattle.register.specs.Views.{phase_of, kept, register, Marked, Summed}
 use Rattle.register.proofs.Counted.{counts, counts_side, replaced}

@@ -1,5 +1,5 @@
 -- Making and closing as steps of the register. Assumes nothing.
-use Rattle.std.proofs.Common.{◌≡◌, ℕ, ◌+◌, ◌<◌, ◌≤◌, List, [], ◌∷◌, ◌++◌, map, length, take, drop, sym, refl, ap, ◌∙◌, subst, append-nil, arith, lit≤}
+use Rattle.std.proofs.Common.{◌≡◌, ℕ, ◌<◌, ◌≤◌, List, [], ◌∷◌, ◌++◌, map, length, take, drop, sym, refl, ap, ◌∙◌, subst, append-nil, arith, lit≤}
 use Rattle.std.proofs.lemmas.List.{map-append, take-append-drop, take_all, drop_all}
 use Rattle.quantities.specs.Sums.{count_of}
 use Rattle.refusals.specs.Causes.{number}
@@ -15,7 +15,7 @@ use Rattle.register.specs.declared.answers.Answer.TheVariants.{Taken, Refused}
 use Rattle.register.specs.declared.totals.Totals.{Totals}
 use Rattle.register.specs.Totals.{of_side}
 use Rattle.refusals.specs.Answers.{Clear, First}
-use Rattle.register.specs.Register.{Register, Kept, Phase, day_ahead, real_time, Open, in_day_ahead, in_real_time, close, Holds, close_unbalanced, total, closes, Step, took, stood, with_positions, with_transactions, with_closings, fresh, in_phase, one_position, one_transaction}
+use Rattle.register.specs.Register.{Register, Kept, Phase, day_ahead, real_time, in_day_ahead, in_real_time, close, Holds, close_unbalanced, total, closes, Step, took, stood, with_positions, with_transactions, with_closings, in_phase, one_position, one_transaction}
 use Rattle.register.specs.Sound.{Sound}
 use Rattle.register.specs.Views.{phase_of, kept, register, Summed}
 use Rattle.register.specs.Weighed.{MakingRefused, no_bus, many_buses, many_positions, many_transactions}

@@ -1,5 +1,5 @@
 -- What an hour keeps to, call by call. Assumes nothing.
-use Rattle.std.proofs.Common.{◌≡◌, ℕ, zero, suc, ◌+◌, ◌-◌, ◌*◌, ◌<◌, ◌≤◌, List, [], ◌∷◌, ◌++◌, map, length, Ok, sym, refl, ap, ◌∙◌, subst, arith}
+use Rattle.std.proofs.Common.{◌≡◌, ℕ, ◌+◌, ◌-◌, ◌*◌, ◌<◌, List, [], ◌∷◌, ◌++◌, map, Ok, sym, ap, ◌∙◌, subst, arith}
 use mathlib.Core.Logic.{∥∥₁_elim}
 use denote.Struct.Props.{props}
 use Rattle.std.proofs.lemmas.List.{length-append}
@@ -17,7 +17,7 @@ use Rattle.register.specs.declared.answers.Answer.{Answer}
 use Rattle.register.specs.declared.totals.Totals.{Totals}
 use Rattle.register.specs.Totals.{of_side, with_side, Amended}
 use Rattle.areas.specs.Areas.{shares_by}
-use Rattle.register.specs.Register.{Register, Kept, Phase, Call, Area, one_position, one_transaction, total, in_phase, area_loads, Step}
+use Rattle.register.specs.Register.{Call, Area, one_position, one_transaction, in_phase, area_loads, Step}
 use Rattle.register.specs.Lawful.{Lawful}
 use Rattle.register.specs.Sound.{Sound}
 use Rattle.register.specs.Views.{phase_of, kept, register, Marked, Summed, Sized}

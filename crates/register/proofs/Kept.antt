@@ -1,5 +1,5 @@
 -- The records of a book in the register, call by call. Assumes nothing.
-use Rattle.std.proofs.Common.{◌≡◌, ℕ, zero, suc, ◌+◌, ◌-◌, ◌<◌, ◌≤◌, List, [], ◌∷◌, ◌++◌, map, length, get_or, take, drop, set, sym, refl, ap, ◌∙◌, subst, append_assoc, arith}
+use Rattle.std.proofs.Common.{◌≡◌, ℕ, zero, suc, ◌+◌, ◌-◌, ◌<◌, ◌≤◌, List, [], ◌∷◌, ◌++◌, map, length, get_or, take, drop, set, sym, refl, ap, ◌∙◌, append_assoc, arith}
 use Rattle.std.proofs.lemmas.List.{take-append-drop, length-append, length-map, length-take, length-take-le, length-drop, take-append-le, drop-append-le, map-append, take-set-le, drop-set-add, set_split, set-get_or, get_or_at, get_or_append_left, get_or-map}
 use Rattle.refusals.proofs.Numbers.{at_most}
 use Rattle.ledgers.specs.Book.{Book, holding}

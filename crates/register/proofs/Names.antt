@@ -2,7 +2,7 @@
 use Rattle.std.proofs.Common.{◌≡◌, ℕ, zero, suc, sym, refl, subst}
 use Rattle.positions.specs.declared.classes.Class.{Class}
 use Rattle.positions.specs.declared.classes.Class.TheVariants.{Load, DecrementBid, Generation, IncrementOffer}
-use Rattle.register.specs.Register.{Phase, day_ahead, real_time, Names, load, decrement, generation, increment}
+use Rattle.register.specs.Register.{Phase, day_ahead, Names, load, decrement, generation, increment}
 use Rattle.register.specs.Views.{phase_of}
 
 pub names_load : (p : Phase) (k : ℕ) → k ≡ 1 → Names p k Load

@@ -1,26 +1,25 @@
 -- Every call keeps a register sound. Assumes nothing.
 use Rattle.std.proofs.Common.{◌≡◌, ℕ, suc, ◌+◌, ◌*◌, ◌<◌, ◌≤◌, ◌≢◌, List, [], ◌∷◌, ◌++◌, map, length, get_or, ℤ, sym, refl, ap, ◌∙◌, subst, ⊎_elim, zero-mul, arith}
 use Rattle.std.specs.List.{AllByRecursion as All}
-use Rattle.std.proofs.ByRecursion.{All-append, All-get_or, All-from_get_or, All-map}
+use Rattle.std.proofs.ByRecursion.{All-append, All-get_or, All-from_get_or}
 use Rattle.std.proofs.lemmas.Bool.{cases_eq}
 use Rattle.refusals.proofs.Numbers.{at_most}
 use Rattle.refusals.specs.Answers.{Clear}
 use Rattle.refusals.specs.declared.Cause.TheVariants.{BusOutOfRange, ParticipantOutOfRange, TotalOverLimit, AreaNotWhole, Unbalanced}
 use Rattle.quantities.specs.Sums.{count_of}
 use Rattle.quantities.proofs.SumLaws.{count_append, count_push, count_middle}
-use Rattle.apportion.specs.Split.{shares, whole}
+use Rattle.apportion.specs.Split.{whole}
 use Rattle.apportion.specs.declared.items.AreaMember.{AreaMember}
 use Rattle.positions.specs.Classes.{side_of, one_if_side}
 use Rattle.positions.specs.Kinds.{tenths, position, transaction, amended_position, amended_transaction}
 use Rattle.positions.specs.declared.bus_positions.BusPosition.{BusPosition}
 use Rattle.positions.specs.declared.transactions.Transaction.{Transaction}
-use Rattle.positions.specs.declared.classes.Class.{Class}
 use Rattle.positions.specs.declared.classes.Side.{Side}
 use Rattle.positions.specs.declared.classes.Side.TheVariants.{Withdrawing, Injecting, Transacting}
 use Rattle.register.specs.declared.answers.Answer.{Answer}
 use Rattle.areas.specs.Areas.{shares_by, nowhere, loads}
-use Rattle.register.specs.Register.{Register, Kept, Phase, day_ahead, real_time, in_phase, Call, post, transfer, area, amend_position, amend_transaction, close, one_if_phase, one_position, one_transaction, total, Open, in_day_ahead, in_real_time, Standing, stands, area_loads, Holds, post_bus, post_participant, post_total, transfer_source, transfer_sink, transfer_participant, transfer_total, area_bus, area_participant, area_total, area_shares, amend_total, amend_transaction_total, close_unbalanced, with_positions, with_transactions, with_closings, Takes, posts, transfers, spreads, amends, amends_transaction, closes, Step, took, stood, Run, done, next, fresh}
-use Rattle.register.specs.Sound.{Placed, Transferred, Limited, Balanced, ClosedBalanced, Sound}
+use Rattle.register.specs.Register.{Register, Kept, Phase, day_ahead, real_time, in_phase, Call, one_if_phase, one_position, one_transaction, total, Open, in_day_ahead, in_real_time, stands, area_loads, Holds, post_bus, post_participant, post_total, transfer_source, transfer_sink, transfer_participant, transfer_total, area_bus, area_participant, area_total, area_shares, amend_total, amend_transaction_total, close_unbalanced, with_positions, with_transactions, with_closings, Takes, posts, transfers, spreads, amends, amends_transaction, closes, Step, took, stood, Run, done, next, fresh}
+use Rattle.register.specs.Sound.{Limited, Balanced, ClosedBalanced, Sound}
 use Rattle.register.proofs.Spread.{count_area}
 
 -- ---- records that name what there is

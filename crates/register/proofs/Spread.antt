@@ -1,35 +1,28 @@
 -- The loads of an area: what they are, how they are posted, and what they add to. Assumes nothing.
-use Rattle.std.proofs.Common.{◌≡◌, ℕ, zero, suc, ◌+◌, ◌-◌, ◌*◌, ◌<◌, ◌≤◌, List, [], ◌∷◌, ◌++◌, map, length, get_or, take, drop, ℤ, pos, nat_abs, ◌≤ℤ◌, Ok, Err, Result, sym, refl, ap, ◌∙◌, subst, append_assoc, append-nil, mul-zero, mul-add, arith, MatchResult}
+use Rattle.std.proofs.Common.{◌≡◌, ℕ, suc, ◌+◌, ◌*◌, ◌<◌, ◌≤◌, List, [], ◌∷◌, ◌++◌, map, length, get_or, ℤ, pos, nat_abs, ◌≤ℤ◌, sym, refl, ap, ◌∙◌, subst, mul-zero, mul-add, arith}
 use borrow.Author.Differences.{ints}
-use Rattle.std.proofs.lemmas.List.{drop_more, drop_all, length-append, length-map, length-take, length-drop}
 use Rattle.refusals.proofs.Numbers.{at_most, none_holds}
 use Rattle.refusals.specs.Answers.{First}
 use Rattle.refusals.specs.Causes.{number}
 use Rattle.refusals.specs.declared.Cause.{Cause}
 use Rattle.refusals.specs.declared.Cause.TheVariants.{BusOutOfRange, ParticipantOutOfRange, TotalOverLimit, LedgerFull, AreaNotWhole}
 use Rattle.quantities.specs.Sums.{sum_of, count_of, at, atℕ, row_of}
-use Rattle.quantities.specs.declared.kinds.Megawatts.{Megawatts}
-use Rattle.quantities.proofs.SumLaws.{count_append, sum_of_row, at_row, length_row}
-use Rattle.apportion.specs.Split.{share, shares, whole, SplitRefused}
+use Rattle.quantities.proofs.SumLaws.{sum_of_row, at_row, length_row}
+use Rattle.apportion.specs.Split.{share, shares, whole}
 use Rattle.apportion.specs.declared.items.AreaMember.{AreaMember}
 use Rattle.apportion.proofs.Laws.{shares_add, share_toward}
-use Rattle.apportion.proofs.Refused.{split_never}
 use Rattle.areas.specs.Areas.{shares_by, nowhere, loads, MembersPlaced, AreaRefused, many_members, no_room, not_whole}
 use Rattle.areas.proofs.Loads.{length_shares}
-use Rattle.ledgers.specs.Book.{Book, Appended, holding}
+use Rattle.ledgers.specs.Book.{Book, holding}
 use Rattle.positions.specs.declared.bus_positions.BusPosition.{BusPosition}
 use Rattle.positions.specs.declared.transactions.Transaction.{Transaction}
-use Rattle.positions.specs.declared.classes.Class.TheVariants.{Load}
 use Rattle.positions.specs.declared.classes.Side.{Side}
 use Rattle.positions.specs.declared.classes.Side.TheVariants.{Withdrawing}
 use Rattle.register.specs.declared.answers.Answer.TheVariants.{RecordNumber, Refused}
-use Rattle.register.specs.declared.totals.Totals.{Totals}
-use Rattle.register.specs.Totals.{of_side, with_side, Amended}
 use Rattle.positions.specs.Classes.{one_if_side}
 use Rattle.register.specs.Register.{Register, Kept, Phase, in_phase, Area, area, area_loads, Open, Holds, area_bus, area_participant, area_total, area_room, area_empty, area_shares, total, one_position, spreads, Step, took, stood, with_positions, one_if_phase}
-use Rattle.register.specs.Views.{phase_of, kept, register, Summed}
+use Rattle.register.specs.Views.{phase_of, register}
 use Rattle.register.proofs.Kept.{kept_length, kept_more}
-use Rattle.register.proofs.Counted.{counts}
 use Rattle.register.proofs.Steps.{open_phase}
 
 -- ---- what the split gives

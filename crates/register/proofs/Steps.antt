@@ -1,10 +1,7 @@
 -- Each call of the hour as a step of its register. Assumes nothing.
-use Rattle.std.proofs.Common.{◌≡◌, ℕ, zero, suc, ◌+◌, ◌-◌, ◌*◌, ◌<◌, ◌≤◌, List, [], ◌∷◌, ◌++◌, length, sym, refl, ap, ◌∙◌, subst, arith}
-use Rattle.quantities.specs.Sums.{count_of}
-use Rattle.quantities.proofs.SumLaws.{count_push}
-use Rattle.refusals.specs.Causes.{number}
+use Rattle.std.proofs.Common.{◌≡◌, ℕ, zero, suc, ◌+◌, ◌<◌, ◌≤◌, List, [], ◌∷◌, ◌++◌, length, sym, refl, ap, ◌∙◌, subst, arith}
 use Rattle.refusals.specs.declared.Cause.{Cause}
-use Rattle.refusals.specs.declared.Cause.TheVariants.{BusOutOfRange, ParticipantOutOfRange, ClassNotTaken, TotalOverLimit, SourceIsSink, LedgerFull, RecordNotOpen, Unbalanced, AreaNotWhole, OtherBusCount, ConstraintOutOfRange, RowLength, OutsideLimits, WeightOutOfRange, MalformedLine, FrameOutOfPlace}
+use Rattle.refusals.specs.declared.Cause.TheVariants.{BusOutOfRange, ParticipantOutOfRange, ClassNotTaken, TotalOverLimit, SourceIsSink, LedgerFull}
 use Rattle.refusals.proofs.Numbers.{none_holds}
 use Rattle.ledgers.specs.Book.{Book, holding}
 use Rattle.positions.specs.Kinds.{position, transaction}
@@ -13,10 +10,9 @@ use Rattle.positions.specs.declared.bus_positions.BusPosition.{BusPosition}
 use Rattle.positions.specs.declared.transactions.Transaction.{Transaction}
 use Rattle.positions.specs.declared.classes.Class.{Class}
 use Rattle.positions.specs.declared.classes.Side.TheVariants.{Transacting}
-use Rattle.register.specs.declared.answers.Answer.TheVariants.{RecordNumber, Taken, Refused}
-use Rattle.refusals.specs.Answers.{First, Clear}
-use Rattle.register.specs.Register.{Register, Kept, Phase, day_ahead, real_time, Posting, Transfer, post, transfer, Call, Open, in_day_ahead, in_real_time, Names, total, Holds, post_bus, post_participant, post_class, post_total, post_room, transfer_source, transfer_sink, transfer_participant, transfer_total, transfer_same, transfer_room, Takes, posts, transfers, Step, took, stood, with_positions, with_transactions, in_phase}
-use Rattle.register.specs.Views.{phase_of, kept, register}
+use Rattle.register.specs.declared.answers.Answer.TheVariants.{RecordNumber, Refused}
+use Rattle.register.specs.Register.{Register, Kept, Phase, Posting, Transfer, post, transfer, Open, in_day_ahead, in_real_time, Names, total, Holds, post_bus, post_participant, post_class, post_total, post_room, transfer_source, transfer_sink, transfer_participant, transfer_total, transfer_same, transfer_room, posts, transfers, Step, took, stood, with_positions, with_transactions, in_phase}
+use Rattle.register.specs.Views.{phase_of, register}
 use Rattle.register.proofs.Names.{one_name}
 use Rattle.register.proofs.Weighed.{post_least, transfer_least}
 use Rattle.register.proofs.Kept.{kept_length, kept_more}

@@ -1,5 +1,5 @@
 -- The causes of each call, weighed in the order of their numbers. Assumes nothing.
-use Rattle.std.proofs.Common.{◌≡◌, ℕ, ◌+◌, ◌<◌, ◌≤◌, length, refl, subst, arith}
+use Rattle.std.proofs.Common.{◌≡◌, ℕ, ◌+◌, ◌<◌, ◌≤◌, length, arith}
 use Rattle.refusals.proofs.Numbers.{at_most}
 use Rattle.refusals.specs.Causes.{number}
 use Rattle.refusals.specs.declared.Cause.{Cause}

@@ -1,5 +1,5 @@
 -- The register of an hour: what any list of calls answers and leaves, told by the calls alone. Assumes nothing.
-use Rattle.std.specs.Prelude.{◌≡◌, ℕ, suc, ◌+◌, ◌*◌, ◌<◌, ◌≤◌, ◌≢◌, List, [], ◌∷◌, ◌++◌, map, length, ℤ, pos, slice_index_or}
+use Rattle.std.specs.Prelude.{◌≡◌, ℕ, suc, ◌+◌, ◌*◌, ◌<◌, ◌≤◌, ◌≢◌, List, [], ◌∷◌, ◌++◌, map, length, pos, slice_index_or}
 use Rattle.refusals.specs.Answers.{First, Clear}
 use Rattle.refusals.specs.declared.Cause.{Cause}
 use Rattle.refusals.specs.declared.Cause.TheVariants.{BusOutOfRange, ParticipantOutOfRange, ClassNotTaken, TotalOverLimit, SourceIsSink, LedgerFull, RecordNotOpen, Unbalanced, AreaNotWhole}

@@ -1,5 +1,5 @@
 -- What the hour's ledgers stand for in the register, and what its calls and answers are there. Assumes nothing.
-use Rattle.std.specs.Prelude.{◌≡◌, ℕ, zero, suc, ◌<◌, ◌≤◌, List, ◌++◌, map, length, take, drop, Ok, Err, Result}
+use Rattle.std.specs.Prelude.{◌≡◌, ℕ, zero, suc, ◌≤◌, List, ◌++◌, map, length, take, drop, Ok, Err, Result}
 use Rattle.refusals.specs.declared.Cause.{Cause}
 use Rattle.apportion.specs.declared.items.AreaMember.{AreaMember}
 use Rattle.ledgers.specs.Book.{Book}

@@ -1,5 +1,5 @@
 -- What is weighed before a step: classes, the limits of an hour, a closing. Assumes nothing.
-use Rattle.std.specs.Prelude.{◌≡◌, ℕ, ◌<◌, ◌≤◌, ◌≢◌, List, map, Some, None, Ok, Err, Option, Result}
+use Rattle.std.specs.Prelude.{ℕ, ◌<◌, Some, None, Ok, Err, Option, Result}
 use Rattle.refusals.specs.Answers.{Clear}
 use Rattle.refusals.specs.declared.Cause.{Cause}
 use Rattle.refusals.specs.declared.Cause.TheVariants.{OutsideLimits}

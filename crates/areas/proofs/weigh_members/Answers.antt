@@ -1,4 +1,4 @@
-use Rattle.std.proofs.Common.{ℕ, ◌<◌, get_or, arith, below_more}
+use Rattle.std.proofs.Common.{◌<◌, get_or, arith, below_more}
 use Rattle.areas.specs.Areas.{nowhere}
 use Rattle.areas.proofs.weigh_members.Goals as goal
 

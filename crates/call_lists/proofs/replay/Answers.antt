@@ -1,7 +1,6 @@
-use Rattle.std.proofs.Common.{◌≡◌, ℕ, ◌+◌, ◌-◌, ◌<◌, ◌≤◌, List, map, length, take, drop, Some, None, sym, refl, ap, ◌∙◌, subst, arith}
+use Rattle.std.proofs.Common.{◌≡◌, ◌+◌, ◌-◌, List, map, length, take, drop, Some, refl, ap, ◌∙◌, subst, arith}
 use Rattle.std.proofs.lemmas.List.{take_rest}
 use Rattle.std.proofs.lemmas.Result.{err_from_is_err_and}
-use Rattle.register.specs.declared.answers.Answer.{Answer}
 use Rattle.call_lists.specs.declared.calls.Call as program
 use Rattle.hours.specs.Hours.{register_of, closed_register}
 use Rattle.register.specs.Register.{day_ahead, real_time, Run}

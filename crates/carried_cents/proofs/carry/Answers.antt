@@ -1,4 +1,4 @@
-use Rattle.std.proofs.Common.{ap, ◌∙◌, arith, rules}
+use Rattle.std.proofs.Common.{ap, ◌∙◌}
 use Rattle.quantities.specs.Sums.{sum_of}
 use Rattle.quantities.specs.Views.{grains}
 use Rattle.quantities.proofs.Carrying.{carried_row_adds}

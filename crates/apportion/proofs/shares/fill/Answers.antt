@@ -1,11 +1,11 @@
-use Rattle.std.proofs.Common.{◌≡◌, ℕ, suc, ◌+◌, ◌<◌, ◌≤◌, map, length, set, ℤ, pos, ◌-ℤ◌, ◌*ℤ◌, sym, refl, ap, ◌∙◌, subst, arith, w64, SFits, rules}
+use Rattle.std.proofs.Common.{◌≡◌, ℕ, suc, ◌+◌, ◌<◌, ◌≤◌, map, length, set, ℤ, pos, ◌-ℤ◌, ◌*ℤ◌, sym, ap, ◌∙◌, subst, arith, w64, SFits, rules}
 use Rattle.std.proofs.lemmas.List.FromFn.{fill_by_all}
 use Rattle.std.proofs.lemmas.List.Edits.{fill_by_more}
 use Rattle.std.proofs.lemmas.List.{length-map, map-set}
 use Rattle.quantities.specs.Sums.{sumℕ, at, atℕ}
 use Rattle.quantities.specs.Rounding.{floor}
 use Rattle.quantities.proofs.SumLaws.{sumℕ_grows, sumℕ_more}
-use Rattle.apportion.specs.Split.{share, whole}
+use Rattle.apportion.specs.Split.{share}
 use Rattle.apportion.proofs.Sizes.{between_fits}
 use Rattle.apportion.proofs.Steps.{weights_more}
 use Rattle.std.proofs.lemmas.Int.{to_z-of_z}

@@ -1,8 +1,8 @@
-use Rattle.std.proofs.Common.{◌≡◌, ℕ, ◌<◌, ◌≤◌, map, length, ℤ, sym, refl, ◌∙◌, subst, arith}
+use Rattle.std.proofs.Common.{ℕ, ◌<◌, map, length, refl, subst, arith}
 use Rattle.std.proofs.lemmas.List.{length-map}
 use Rattle.std.proofs.lemmas.Result.{err_from_is_err_and}
 use Rattle.quantities.specs.Sums.{at, atℕ}
-use Rattle.apportion.specs.Split.{Fair, Toward, whole}
+use Rattle.apportion.specs.Split.{Fair, Toward}
 use Rattle.apportion.proofs.Laws.{row_fair, row_toward}
 use Rattle.apportion.proofs.Refused.{sum_some, split_length, split_weights, split_clear}
 use Rattle.apportion.proofs.shares.split.Goals as goal

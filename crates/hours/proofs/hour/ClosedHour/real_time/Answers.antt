@@ -1,4 +1,4 @@
-use Rattle.std.proofs.Common.{◌≡◌, List, ◌++◌, map, take, sym, ap}
+use Rattle.std.proofs.Common.{List, ◌++◌, map, take, sym, ap}
 use Rattle.ledgers.specs.Book.{closed_book}
 use Rattle.positions.specs.declared.bus_positions.BusPosition.{BusPosition}
 use Rattle.positions.specs.declared.transactions.Transaction.{Transaction}

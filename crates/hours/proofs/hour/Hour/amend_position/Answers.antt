@@ -1,10 +1,8 @@
-use Rattle.std.proofs.Common.{◌≡◌, ℕ, ◌+◌, ◌<◌, ◌≤◌, set, sym, ap, ◌∙◌, subst, arith}
+use Rattle.std.proofs.Common.{sym, ap, subst, arith}
 use Rattle.std.proofs.lemmas.Result.{err_from_is_err_and}
 use Rattle.refusals.specs.declared.Cause.{Cause}
-use Rattle.ledgers.specs.Book.{book, holding}
+use Rattle.ledgers.specs.Book.{book}
 use Rattle.positions.specs.Classes.{side_of}
-use Rattle.positions.specs.Kinds.{amended_position}
-use Rattle.positions.specs.declared.bus_positions.BusPosition.{BusPosition}
 use Rattle.register.specs.declared.answers.Answer.TheVariants.{Taken, Refused}
 use Rattle.hours.specs.Hours.{register_of}
 use Rattle.hours.proofs.Held.{marked, phased, sound, summed, tallied}

@@ -1,11 +1,9 @@
-use Rattle.std.proofs.Common.{◌≡◌, ℕ, ◌+◌, ◌<◌, ◌≤◌, set, Ok, sym, ap, ◌∙◌, subst, arith}
+use Rattle.std.proofs.Common.{Ok, sym, ap, subst, arith}
 use Rattle.std.proofs.lemmas.Result.{err_from_is_err_and}
 use Rattle.refusals.specs.declared.Cause.{Cause}
-use Rattle.ledgers.specs.Book.{book, holding}
-use Rattle.positions.specs.Kinds.{amended_transaction}
+use Rattle.ledgers.specs.Book.{book}
 use Rattle.positions.specs.declared.classes.Side.{Side}
 use Rattle.positions.specs.declared.classes.Side.TheVariants.{Transacting}
-use Rattle.positions.specs.declared.transactions.Transaction.{Transaction}
 use Rattle.register.specs.declared.answers.Answer.TheVariants.{Taken, Refused}
 use Rattle.hours.specs.Hours.{register_of}
 use Rattle.hours.proofs.Held.{marked, phased, sound, summed, tallied}

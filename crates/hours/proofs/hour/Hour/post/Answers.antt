@@ -1,10 +1,9 @@
-use Rattle.std.proofs.Common.{◌≡◌, ℕ, ◌+◌, ◌<◌, ◌≤◌, [], ◌∷◌, ◌++◌, sym, refl, ap, ◌∙◌, subst, arith}
+use Rattle.std.proofs.Common.{ℕ, sym, ap, ◌∙◌, subst, arith}
 use Rattle.std.proofs.lemmas.Result.{err_from_is_err_and}
 use Rattle.refusals.specs.declared.Cause.{Cause}
-use Rattle.ledgers.specs.Book.{book, holding}
+use Rattle.ledgers.specs.Book.{book}
 use Rattle.positions.specs.Classes.{side_of}
 use Rattle.positions.specs.Kinds.{position}
-use Rattle.positions.specs.declared.bus_positions.BusPosition.{BusPosition}
 use Rattle.register.specs.declared.answers.Answer.TheVariants.{RecordNumber, Refused}
 use Rattle.hours.specs.Hours.{register_of}
 use Rattle.hours.proofs.Held.{marked, phased, sound, summed, tallied}

@@ -1,4 +1,3 @@
-use Rattle.std.proofs.Common.{length}
 use Rattle.register.specs.Weighed.{no_bus, many_buses, many_positions, many_transactions}
 use Rattle.register.proofs.Closings.{making_first, making_clear}
 use Rattle.hours.proofs.hour.making.weigh_making.Goals as goal

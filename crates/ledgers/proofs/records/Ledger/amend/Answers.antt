@@ -1,4 +1,4 @@
-use Rattle.std.proofs.Common.{refl, arith, rules}
+use Rattle.std.proofs.Common.{refl, arith}
 use Rattle.ledgers.proofs.Steps.{amends, above, below}
 use Rattle.ledgers.proofs.records.Ledger.amend.Goals as goal
 
