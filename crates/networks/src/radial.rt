@@ -4,7 +4,7 @@ ghost use Rattle.networks.specs.Descent.{Falling};
 ghost use Rattle.networks.specs.Limits.{most_buses, most_constraints};
 ghost use Rattle.networks.specs.Radials.{radial_meaning, ConstraintsWithin};
 ghost use Rattle.networks.specs.RadialLimits.{price_most, price_past};
-ghost use Rattle.std.proofs.Common.{rules, arith};
+ghost use Rattle.std.proofs.Common.{rules};
 
 mod constraint;
 mod descent;
@@ -32,23 +32,23 @@ const FACTOR_UNDER: Factor = Factor(-1_000);
 impl Network for Radial {
     ghost meaning = { λ n. radial_meaning n.uppers.items n.constraints.items };
 
-    ghost a_bus = { first_of (Prim.search rules, Prim.grind (arith, Self.row.coded.inj)) };
+    ghost a_bus = { Prim.search rules };
 
-    ghost buses_most = { first_of (Prim.search rules, Prim.grind (arith, Self.row.coded.inj)) };
+    ghost buses_most = { Prim.search rules };
 
-    ghost constraints_most = { first_of (Prim.search rules, Prim.grind (arith, Self.row.coded.inj)) };
+    ghost constraints_most = { Prim.search rules };
 
     ghost price_most = { λ n j. price_most (length n.uppers.items + 1) n.constraints.items n.constraints_within j };
 
-    ghost factor_most = { first_of (Prim.search rules, Prim.grind (arith, Self.row.coded.inj)) };
+    ghost factor_most = { Prim.search rules };
 
-    ghost spread_most = { first_of (Prim.search rules, Prim.grind (arith, Self.row.coded.inj)) };
+    ghost spread_most = { Prim.search rules };
 
     ghost price_beyond = { λ n j h. price_past n.constraints.items j h };
 
-    ghost factor_beyond_constraints = { first_of (Prim.search rules, Prim.grind (arith, Self.row.coded.inj)) };
+    ghost factor_beyond_constraints = { Prim.search rules };
 
-    ghost factor_beyond_buses = { first_of (Prim.search rules, Prim.grind (arith, Self.row.coded.inj)) };
+    ghost factor_beyond_buses = { Prim.search rules };
 
     fn buses(&self) -> u16 {
         self.uppers.len() as u16 + 1

@@ -4,7 +4,7 @@ ghost use Rattle.networks.specs.Limits.{most_buses, most_constraints};
 ghost use Rattle.networks.specs.Meaning.{SpreadMost};
 ghost use Rattle.networks.specs.Tables.{table_meaning, PricesWithin, FactorsWithin};
 ghost use Rattle.networks.specs.TableLimits.{price_most, factor_most, price_past};
-ghost use Rattle.std.proofs.Common.{rules, arith};
+ghost use Rattle.std.proofs.Common.{rules};
 
 mod making;
 
@@ -29,23 +29,23 @@ pub struct Table {
 impl Network for Table {
     ghost meaning = { λ t. table_meaning t.buses t.prices.items t.factors.items };
 
-    ghost a_bus = { first_of (Prim.search rules, Prim.grind (arith, Self.row.coded.inj)) };
+    ghost a_bus = { Prim.search rules };
 
-    ghost buses_most = { first_of (Prim.search rules, Prim.grind (arith, Self.row.coded.inj)) };
+    ghost buses_most = { Prim.search rules };
 
-    ghost constraints_most = { first_of (Prim.search rules, Prim.grind (arith, Self.row.coded.inj)) };
+    ghost constraints_most = { Prim.search rules };
 
     ghost price_most = { λ t j. price_most t.prices.items t.prices_within j };
 
     ghost factor_most = { λ t j i. factor_most t.buses t.prices.items t.factors.items t.whole t.factors_within j i };
 
-    ghost spread_most = { first_of (Prim.search rules, Prim.grind (arith, Self.row.coded.inj)) };
+    ghost spread_most = { Prim.search rules };
 
     ghost price_beyond = { λ t j h. price_past t.prices.items j h };
 
-    ghost factor_beyond_constraints = { first_of (Prim.search rules, Prim.grind (arith, Self.row.coded.inj)) };
+    ghost factor_beyond_constraints = { Prim.search rules };
 
-    ghost factor_beyond_buses = { first_of (Prim.search rules, Prim.grind (arith, Self.row.coded.inj)) };
+    ghost factor_beyond_buses = { Prim.search rules };
 
     fn buses(&self) -> u16 {
         self.buses
