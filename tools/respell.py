@@ -3,6 +3,8 @@
 
 usage: python3 tools/respell.py [--list]     at the top, once, right after the kit's port.py
 A name is turned only where the repository defines it; names that Rattle makes of a proof (goals, steps) stay.
+It has been run, and is kept to show what it did. Don't run it again: it goes by text, and takes one citation of the library's
+drop-append-le for a definition.
 """
 import glob
 import re

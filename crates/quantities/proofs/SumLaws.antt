@@ -3,7 +3,7 @@ use Rattle.std.proofs.Common.{◌≡◌, ℕ, zero, suc, ◌+◌, ◌<◌, ◌�
 use lib.IntN.{*ℤ_comm, *ℤ-zero, zero-*ℤ}
 use borrow.Author.Differences.{ints}
 use Rattle.std.proofs.lemmas.List.FromFn.{get_or-map-range_with_len, length-map-range_with_len}
-use Rattle.std.specs.List.{AllByRecursion as All}
+use Rattle.std.specs.List.{AllByRecursion}
 use Rattle.std.proofs.lemmas.List.{at_drop_more, at_drop_all}
 use Rattle.std.proofs.lemmas.Bool.{cases_lt}
 use Rattle.std.proofs.lemmas.Bool.Decides.{nat_tests}
@@ -143,7 +143,7 @@ module _ {A : Type 0} where
   sum_of_times c f (x ∷ xs) = ap (λ s. c *ℤ f x +ℤ s) (sum_of_times c f xs) ∙ sym (*ℤ-+ℤ c (f x) (sum_of f xs))
 
   -- equal terms at elements of which P holds
-  pub sum_of_same : (P : A → Type 0) (f g : A → ℤ) → ((x : A) → P x → f x ≡ g x) → (xs : List A) → All P xs → sum_of f xs ≡ sum_of g xs
+  pub sum_of_same : (P : A → Type 0) (f g : A → ℤ) → ((x : A) → P x → f x ≡ g x) → (xs : List A) → AllByRecursion P xs → sum_of f xs ≡ sum_of g xs
   sum_of_same P f g e [] h = refl
   sum_of_same P f g e (x ∷ xs) h =
       let here : f x ≡ g x = e x h.0 in

@@ -1,4 +1,4 @@
--- The limit that hours and networks share. Assumes nothing.
+-- The most buses of an hour; networks have the same limit, as a definition of their own. Assumes nothing.
 use Rattle.std.specs.Prelude.{ℕ}
 
 abbrev pub most_buses : ℕ

@@ -132,16 +132,16 @@ marked_set k b i y m = let l = length-set b.items i y in (omega arith, m.1)
 
 module _ (k n : ℕ) (t u : Totals) (b : Book BusPosition) (d : Book Transaction) (old : Tallied k n t b d) (sound : Sound (register k n b d)) (i m o : ℕ) where
   pub amended_ghosts : {call : Call} {answer : Answer} → (x : BusPosition) (a : Side) (e : Book BusPosition) → b.mark ≤ i → i < length b.items → x ≡ get_or b.items i x → a ≡ side_of x.class → o ≡ tenths x.megawatts → Amended t a o m (Ok u) → e ≡ holding b (set b.items i (amended_position (get_or b.items i x) m)) → Step (register k n b d) call answer (register k n e d) → Ghosts k n u e d
-  amended_ghosts x a e low high is side was-held new changed step =
+  amended_ghosts x a e low high is side was_held new changed step =
       let amended : e ≡ holding b (set b.items i (amended_position x m)) = changed ∙ ap (λ (z : BusPosition). holding b (set b.items i (amended_position z m))) (sym is) in
       let p = phase_of k in
       let c = side_of x.class in
       let y = amended_position x m in
       let v = with_side t c (of_side t c - tenths x.megawatts + m) in
-      let new' = subst (λ (q : ℕ). Amended t c q m (Ok u)) was-held (subst (λ (q : Side). Amended t q o m (Ok u)) side new) in
-      let in-total = held k n t b d i x old.1.1.0 low high is in
+      let new' = subst (λ (q : ℕ). Amended t c q m (Ok u)) was_held (subst (λ (q : Side). Amended t q o m (Ok u)) side new) in
+      let in_total = held k n t b d i x old.1.1.0 low high is in
       let summed : Summed v (register k n (holding b (set b.items i y)) d) p = λ s.
-      let r = replaced t c s (tenths x.megawatts) m in-total in
+      let r = replaced t c s (tenths x.megawatts) m in_total in
       let was = old.1.1.0 s in
       let f = one_position p s in
       let then = ap (count_of f) (kept_at p b i x low high is) in
@@ -156,15 +156,15 @@ module _ (k n : ℕ) (t u : Totals) (b : Book BusPosition) (d : Book Transaction
       with_sound k n u e d (subst (λ (q : Book BusPosition). Tallied k n u q d) (sym amended) (subst (λ (q : Totals). Tallied k n q (holding b (set b.items i y)) d) (sym new'.1) all)) (step_sound step sound)
 
   pub amended_transaction_ghosts : {call : Call} {answer : Answer} → (x : Transaction) (e : Book Transaction) → d.mark ≤ i → i < length d.items → x ≡ get_or d.items i x → o ≡ tenths x.megawatts → Amended t Transacting o m (Ok u) → e ≡ holding d (set d.items i (amended_transaction (get_or d.items i x) m)) → Step (register k n b d) call answer (register k n b e) → Ghosts k n u b e
-  amended_transaction_ghosts x e low high is was-held new changed step =
+  amended_transaction_ghosts x e low high is was_held new changed step =
       let amended : e ≡ holding d (set d.items i (amended_transaction x m)) = changed ∙ ap (λ (z : Transaction). holding d (set d.items i (amended_transaction z m))) (sym is) in
       let p = phase_of k in
       let y = amended_transaction x m in
       let v = with_side t Transacting (of_side t Transacting - tenths x.megawatts + m) in
-      let new' = subst (λ (q : ℕ). Amended t Transacting q m (Ok u)) was-held new in
-      let in-total = transaction_held k n t b d i x old.1.1.0 low high is in
+      let new' = subst (λ (q : ℕ). Amended t Transacting q m (Ok u)) was_held new in
+      let in_total = transaction_held k n t b d i x old.1.1.0 low high is in
       let summed : Summed v (register k n b (holding d (set d.items i y))) p = λ s.
-      let r = replaced t Transacting s (tenths x.megawatts) m in-total in
+      let r = replaced t Transacting s (tenths x.megawatts) m in_total in
       let was = old.1.1.0 s in
       let f = one_transaction p s in
       let then = ap (count_of f) (kept_at p d i x low high is) in

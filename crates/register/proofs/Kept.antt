@@ -75,10 +75,10 @@ module _ {P : Type 0} (p : Phase) (b : Book P) (i : ℕ) where
 
 -- a number has one record
 pub one_record : {P : Type 0} {p : Phase} {all : List (Kept P)} {i : ℕ} {e f : P} → Standing P p all i e → Standing P p all i f → e ≡ f
-one_record {P} {p} {all} {i} {e} {f} (stands before after is at_i) (stands front back is' at-i') =
+one_record {P} {p} {all} {i} {e} {f} (stands before after is at_i) (stands front back is' at_i') =
     let x = in_phase p e in
     let one = get_or_at before x after x i at_i in
-    let two = get_or_at front (in_phase p f) back x i at-i' in
+    let two = get_or_at front (in_phase p f) back x i at_i' in
     let same : x ≡ in_phase p f = sym one ∙ ap (λ (xs : List (Kept P)). get_or xs i x) (sym is ∙ is') ∙ two in
     ap (λ (k : Kept P). k.entry) same
 

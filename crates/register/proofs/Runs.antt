@@ -1,6 +1,6 @@
 -- Every call keeps a register sound. Assumes nothing.
 use Rattle.std.proofs.Common.{◌≡◌, ℕ, suc, ◌+◌, ◌*◌, ◌<◌, ◌≤◌, ◌≢◌, List, [], ◌∷◌, ◌++◌, map, length, get_or, ℤ, sym, refl, ap, ◌∙◌, subst, ⊎_elim, zero-mul, arith}
-use Rattle.std.specs.List.{AllByRecursion as All}
+use Rattle.std.specs.List.{AllByRecursion}
 use Rattle.std.proofs.ByRecursion.{All-append, All-get_or, All-from_get_or}
 use Rattle.std.proofs.lemmas.Bool.{cases_eq}
 use Rattle.refusals.proofs.Numbers.{at_most}
@@ -32,18 +32,18 @@ TransactionPlaced n k = (k.entry.participant < 16) × (k.entry.source < n) × (k
 
 module _ {A : Type 0} (P : A → Type 0) where
   -- what holds at every place of a list, told by places and told of all its elements
-  pub of_all : (xs : List A) → All P xs → (i : ℕ) (d : A) → i < length xs → P (get_or xs i d)
+  pub of_all : (xs : List A) → AllByRecursion P xs → (i : ℕ) (d : A) → i < length xs → P (get_or xs i d)
   of_all xs h i d l = All-get_or P xs i d l h
 
-  pub to_all : (xs : List A) → ((i : ℕ) (d : A) → i < length xs → P (get_or xs i d)) → All P xs
+  pub to_all : (xs : List A) → ((i : ℕ) (d : A) → i < length xs → P (get_or xs i d)) → AllByRecursion P xs
   to_all [] h = tt
   to_all (x ∷ xs) h = All-from_get_or P (x ∷ xs) x (λ i l. h i x l)
 
-  all_replaced : (x y : A) → (P x → P y) → (before after : List A) → All P (before ++ (x ∷ after)) → All P (before ++ (y ∷ after))
+  all_replaced : (x y : A) → (P x → P y) → (before after : List A) → AllByRecursion P (before ++ (x ∷ after)) → AllByRecursion P (before ++ (y ∷ after))
   all_replaced x y f [] after h = (f h.0, h.1)
   all_replaced x y f (b ∷ before) after h = (h.0, all_replaced x y f before after h.1)
 
-all_loads : (n : ℕ) (p : Phase) (who : ℕ) → who < 16 → (ms : List AreaMember) (zs : List ℤ) → All (λ m. m.bus < n) ms → All (PositionPlaced n) (map (in_phase p) (loads who ms zs))
+all_loads : (n : ℕ) (p : Phase) (who : ℕ) → who < 16 → (ms : List AreaMember) (zs : List ℤ) → AllByRecursion (λ m. m.bus < n) ms → AllByRecursion (PositionPlaced n) (map (in_phase p) (loads who ms zs))
 all_loads n p who h [] [] a = tt
 all_loads n p who h [] (z ∷ zs) a = tt
 all_loads n p who h (m ∷ ms) [] a = tt
@@ -80,7 +80,7 @@ side_changes Transacting Transacting x o m h k = omega arith
 module _ (r : Register) (p : Phase) (a : Side) (all : Limited r) where
   grows : (m : ℕ) → total r p a + m ≤ 1000000 → (q : Phase) (s : Side) → total r q s + one_if_phase p q * (one_if_side a s * m) ≤ 1000000
   grows m fit q s =
-      let on-side = side_changes a s (total r p) 0 m (all p s) (omega arith) in
+      let on_side = side_changes a s (total r p) 0 m (all p s) (omega arith) in
       phase_grows p q (λ z. total r z s) (one_if_side a s * m) (all q s) (omega arith)
 
   changes : (o m t : ℕ) (q : Phase) (s : Side) → total r p a + m ≤ 1000000 + o → t + one_if_phase p q * (one_if_side a s * o) ≡ total r q s + one_if_phase p q * (one_if_side a s * m) → t ≤ 1000000
@@ -109,7 +109,7 @@ closed r real_time (in_real_time e) b h = (h.0, h.1, h.2, ((λ k. h.3.0 (omega a
 
 -- records are added to the positions: o is what they were refused for, were it so
 module _ (r : Register) (p : Phase) (o : Open r p) (h : Sound r) where
-  add_positions : (more : List (Kept BusPosition)) (m : ℕ) (a : Side) → All (PositionPlaced r.buses) more → total r p a + m ≤ 1000000 → ((q : Phase) (s : Side) → count_of (one_position q s) more ≡ one_if_phase p q * (one_if_side a s * m)) → Sound (with_positions r (r.positions ++ more))
+  add_positions : (more : List (Kept BusPosition)) (m : ℕ) (a : Side) → AllByRecursion (PositionPlaced r.buses) more → total r p a + m ≤ 1000000 → ((q : Phase) (s : Side) → count_of (one_position q s) more ≡ one_if_phase p q * (one_if_side a s * m)) → Sound (with_positions r (r.positions ++ more))
   add_positions more m a placed fit adds =
       let n = r.buses in
       let s = with_positions r (r.positions ++ more) in
@@ -153,7 +153,7 @@ module _ (r : Register) (p : Phase) (o : Open r p) (h : Sound r) where
       let three = count_middle g before new after in
       omega arith) in
       let b = still r s p o refl (λ side z. let w = was day_ahead side in let x = nought (one_if_phase p day_ahead) (one_if_side a side * tenths e.megawatts) z in let y = nought (one_if_phase p day_ahead) (one_if_side a side * m) z in omega arith) h in (
-        of_all (PositionPlaced n) (before ++ (new ∷ after)) (all_replaced (PositionPlaced n) old new (λ q. q) before after (subst (All (PositionPlaced n)) is (to_all (PositionPlaced n) r.positions h.0))),
+        of_all (PositionPlaced n) (before ++ (new ∷ after)) (all_replaced (PositionPlaced n) old new (λ q. q) before after (subst (AllByRecursion (PositionPlaced n)) is (to_all (PositionPlaced n) r.positions h.0))),
         h.1,
         (λ q side. changes r p a h.2 (tenths e.megawatts) m (total s q side) q side fit (was q side)),
         b,
@@ -173,7 +173,7 @@ module _ (r : Register) (p : Phase) (o : Open r p) (h : Sound r) where
       omega arith) in
       let b = still r s p o refl (λ side z. let w = was day_ahead side in let x = nought (one_if_phase p day_ahead) (one_if_side Transacting side * tenths e.megawatts) z in let y = nought (one_if_phase p day_ahead) (one_if_side Transacting side * m) z in omega arith) h in (
         h.0,
-        of_all (TransactionPlaced n) (before ++ (new ∷ after)) (all_replaced (TransactionPlaced n) old new (λ q. q) before after (subst (All (TransactionPlaced n)) is (to_all (TransactionPlaced n) r.transactions h.1))),
+        of_all (TransactionPlaced n) (before ++ (new ∷ after)) (all_replaced (TransactionPlaced n) old new (λ q. q) before after (subst (AllByRecursion (TransactionPlaced n)) is (to_all (TransactionPlaced n) r.transactions h.1))),
         (λ q side. changes r p Transacting h.2 (tenths e.megawatts) m (total s q side) q side fit (was q side)),
         b,
       )

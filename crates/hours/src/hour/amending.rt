@@ -1,6 +1,6 @@
 // Amending a record of the open phase.
 ghost use Rattle.hours.specs.Hours.{register_of};
-ghost use Rattle.register.specs.Register.{Step, amend_position, amend_transaction};
+ghost use Rattle.register.specs.Register.{Step, amend_position as amending_position, amend_transaction as amending_transaction};
 ghost use Rattle.register.specs.Views.{done};
 
 use super::Hour;
@@ -10,7 +10,7 @@ use refusals::Cause;
 impl<'a, const PHASE: u8> Hour<'a, PHASE> {
     // Replaces the M of a bus position.
     pub fn amend_position(&mut self, record: usize, tenths: u32) -> Result<(), Cause>
-        ensures { Step (register_of self.old) (amend_position «record» tenths) (done result) (register_of self.new) }
+        ensures { Step (register_of self.old) (amending_position «record» tenths) (done result) (register_of self.new) }
     {
         let Some(old) = self.positions.open_at(record) else {
             return Err(Cause::RecordNotOpen);
@@ -23,7 +23,7 @@ impl<'a, const PHASE: u8> Hour<'a, PHASE> {
 
     // Replaces the M of a transaction.
     pub fn amend_transaction(&mut self, record: usize, tenths: u32) -> Result<(), Cause>
-        ensures { Step (register_of self.old) (amend_transaction «record» tenths) (done result) (register_of self.new) }
+        ensures { Step (register_of self.old) (amending_transaction «record» tenths) (done result) (register_of self.new) }
     {
         let Some(old) = self.transactions.open_at(record) else {
             return Err(Cause::RecordNotOpen);

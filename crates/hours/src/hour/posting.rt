@@ -1,7 +1,7 @@
 // Posting to the open phase.
 ghost use Rattle.hours.specs.Hours.{register_of};
 ghost use Rattle.register.specs.Register.{Step};
-ghost use Rattle.register.specs.Views.{numbered, posting as post-of, spreading, transferring};
+ghost use Rattle.register.specs.Views.{numbered, posting as post_of, spreading, transferring};
 
 use super::Hour;
 use apportion::AreaMember;
@@ -22,7 +22,7 @@ impl<'a, const PHASE: u8> Hour<'a, PHASE> {
         bus: u16,
         tenths: u32,
     ) -> Result<usize, Cause>
-        ensures { Step (register_of self.old) (post-of participant class bus tenths) (numbered result) (register_of self.new) }
+        ensures { Step (register_of self.old) (post_of participant class bus tenths) (numbered result) (register_of self.new) }
     {
         if bus >= self.buses {
             return Err(Cause::BusOutOfRange);

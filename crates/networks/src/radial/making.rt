@@ -3,7 +3,7 @@ ghost use Rattle.std.specs.Prelude.{◌+◌, length, Decides};
 ghost use Rattle.refusals.specs.Answers.{Answered, Clear};
 ghost use Rattle.networks.specs.Descent.{Falling};
 ghost use Rattle.networks.specs.Radials.{RadialTells, RadialRefused, RadialWithin, ConstraintsWithin, ConstraintWithin};
-ghost use Rattle.networks.specs.contracts.radial.RadialNetwork.TheImpl.{ghosts as as-network};
+ghost use Rattle.networks.specs.contracts.radial.RadialNetwork.TheImpl.{ghosts as as_network};
 
 use crate::network::{MAX_BUSES, MAX_CONSTRAINTS, MAX_SHADOW_PRICE};
 use crate::radial::Radial;
@@ -25,7 +25,7 @@ impl Radial {
     // The network of what was weighed. Entry k of `uppers` is the upper bus of bus k + 1.
     pub fn new(uppers: Vec<u16>, constraints: Vec<RadialConstraint>) -> Radial
         requires { Clear (RadialRefused uppers.items constraints.items) }
-        ensures { RadialTells uppers.items constraints.items (as-network.meaning result) }
+        ensures { RadialTells uppers.items constraints.items (as_network.meaning result) }
     {
         Radial {
             uppers,

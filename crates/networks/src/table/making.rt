@@ -3,7 +3,7 @@ ghost use Rattle.std.specs.Prelude.{◌≡◌, ◌*◌, ◌≤◌, length, Decid
 ghost use Rattle.refusals.specs.Answers.{Answered, Clear};
 ghost use Rattle.networks.specs.Limits.{most_buses, most_constraints};
 ghost use Rattle.networks.specs.Tables.{table_meaning, TableRefused, TableWithin, PricesWithin, FactorsWithin, RowsClose, Close, CloseTo};
-ghost use Rattle.networks.specs.contracts.table.TableNetwork.TheImpl.{ghosts as as-network};
+ghost use Rattle.networks.specs.contracts.table.TableNetwork.TheImpl.{ghosts as as_network};
 
 use crate::network::{MAX_BUSES, MAX_CONSTRAINTS, MAX_FACTOR, MAX_SHADOW_PRICE, MAX_SPREAD};
 use crate::table::Table;
@@ -25,7 +25,7 @@ impl Table {
     // The table of what was weighed. The factors stand constraint by constraint, with one for each bus.
     pub fn new(buses: u16, prices: Vec<ShadowPrice>, factors: Vec<Factor>) -> Table
         requires { Clear (TableRefused buses prices.items factors.items) }
-        ensures { as-network.meaning result ≡ table_meaning buses prices.items factors.items }
+        ensures { as_network.meaning result ≡ table_meaning buses prices.items factors.items }
     {
         Table {
             buses,

@@ -47,13 +47,13 @@ up_to g c =
     let room : i + 1 ≤ length ws = rw length-map (omega arith) in
     let grown = sumℕ_grows (i + 1) (length ws) (atℕ ws) room in
     let small : SFits w64 c.units.result = search rules in
-    let whole-amount = to_z-of_z w64 c.units.result small ∙ c.units.ensures in
+    let whole_amount = to_z-of_z w64 c.units.result small ∙ c.units.ensures in
     let weight : c.loop-i.before.weight + c.weight.result ≡ q = omega arith in
     record {
       grown = omega arith;
       within = omega arith;
       weight_is = c.with-after.ensures.weight ∙ weight;
-      given_is = c.with-after.ensures.given ∙ ap (λ z. floor (z *ℤ pos (c.loop-i.before.weight + c.weight.result)) W) whole-amount ∙ ap (λ k. floor (A *ℤ pos k) W) weight;
+      given_is = c.with-after.ensures.given ∙ ap (λ z. floor (z *ℤ pos (c.loop-i.before.weight + c.weight.result)) W) whole_amount ∙ ap (λ k. floor (A *ℤ pos k) W) weight;
       fits = subst (SFits w64) c.units.ensures small;
     }
 
