@@ -2,8 +2,8 @@
 use Rattle.std.specs.Prelude.{ℕ}
 use Rattle.refusals.specs.declared.Cause.{Cause}
 use Rattle.refusals.specs.declared.Cause.TheVariants.{BusOutOfRange, ParticipantOutOfRange, ClassNotTaken, TotalOverLimit, SourceIsSink, LedgerFull, RecordNotOpen, Unbalanced, AreaNotWhole, OtherBusCount, ConstraintOutOfRange, RowLength, OutsideLimits, WeightOutOfRange, MalformedLine, FrameOutOfPlace}
-use Rattle.refusals.specs.declared.Layer.{Layer}
-use Rattle.refusals.specs.declared.Layer.TheVariants.{Reader, Hour, Network}
+use Rattle.refusals.specs.declared.layer.Layer.{Layer}
+use Rattle.refusals.specs.declared.layer.Layer.TheVariants.{Reader, Hour, Network}
 
 abbrev pub number : Cause → ℕ
 number BusOutOfRange = 1

@@ -2,54 +2,49 @@
 #![tactic(auto)]
 
 ghost use Rattle.std.specs.Prelude.{◌≡◌, ℕ, ◌++◌, Some, codes, decimal};
-ghost use Rattle.refusals.specs.Causes.{layer, layer_number, number};
+ghost use Rattle.refusals.specs.Causes.{layer, number};
 
+mod layer;
+
+pub use layer::Layer;
 use std::error::Error;
 use std::fmt;
 
-// A refusal has one cause. Of several that hold, the one with the smallest number is answered.
+// A refusal has one cause, and each has its number. Of several that hold, the one with the smallest number is answered.
 #[derive(Clone, Copy, PartialEq, Eq, Debug)]
 pub enum Cause {
     // a bus that is not below n
-    BusOutOfRange,
+    BusOutOfRange = 1,
     // a participant above 15
-    ParticipantOutOfRange,
+    ParticipantOutOfRange = 2,
     // a class that is not 1 to 4, or one of day-ahead alone in real time
-    ClassNotTaken,
+    ClassNotTaken = 3,
     // a total of the phase would pass 1,000,000
-    TotalOverLimit,
+    TotalOverLimit = 4,
     // a transaction from a bus to itself
-    SourceIsSink,
+    SourceIsSink = 5,
     // too few free records
-    LedgerFull,
+    LedgerFull = 6,
     // no such record, or one of a closed phase
-    RecordNotOpen,
+    RecordNotOpen = 7,
     // a phase whose withdrawals and injections differ
-    Unbalanced,
+    Unbalanced = 8,
     // no members, or shares that do not add to 10,000
-    AreaNotWhole,
+    AreaNotWhole = 9,
     // a network with another number of buses than the hour
-    OtherBusCount,
+    OtherBusCount = 10,
     // a constraint that is not below m
-    ConstraintOutOfRange,
+    ConstraintOutOfRange = 11,
     // a row of the wrong length
-    RowLength,
+    RowLength = 12,
     // an hour or a network outside the limits
-    OutsideLimits,
+    OutsideLimits = 13,
     // weights that add to nought or to more than 2,000,000,000
-    WeightOutOfRange,
+    WeightOutOfRange = 14,
     // a line that is no frame
-    MalformedLine,
+    MalformedLine = 15,
     // a frame that does not come next
-    FrameOutOfPlace,
-}
-
-// The part of the program that refuses.
-#[derive(Clone, Copy, PartialEq, Eq, Debug)]
-pub enum Layer {
-    Reader,
-    Hour,
-    Network,
+    FrameOutOfPlace = 16,
 }
 
 impl Cause {
@@ -58,24 +53,7 @@ impl Cause {
         ensures value { result ≡ number self }
         ensures apart { (d : Cause) → number d ≡ result → d ≡ self }
     {
-        match self {
-            Cause::BusOutOfRange => 1,
-            Cause::ParticipantOutOfRange => 2,
-            Cause::ClassNotTaken => 3,
-            Cause::TotalOverLimit => 4,
-            Cause::SourceIsSink => 5,
-            Cause::LedgerFull => 6,
-            Cause::RecordNotOpen => 7,
-            Cause::Unbalanced => 8,
-            Cause::AreaNotWhole => 9,
-            Cause::OtherBusCount => 10,
-            Cause::ConstraintOutOfRange => 11,
-            Cause::RowLength => 12,
-            Cause::OutsideLimits => 13,
-            Cause::WeightOutOfRange => 14,
-            Cause::MalformedLine => 15,
-            Cause::FrameOutOfPlace => 16,
-        }
+        self as u8
     }
 
     // The layer that answers this cause.
@@ -86,19 +64,6 @@ impl Cause {
             Cause::MalformedLine | Cause::FrameOutOfPlace => Layer::Reader,
             Cause::OtherBusCount | Cause::OutsideLimits => Layer::Network,
             _ => Layer::Hour,
-        }
-    }
-}
-
-impl Layer {
-    // The number of the layer in a refusal line.
-    pub fn number(self) -> u8
-        ensures { result ≡ layer_number self }
-    {
-        match self {
-            Layer::Reader => 1,
-            Layer::Hour => 2,
-            Layer::Network => 3,
         }
     }
 }
