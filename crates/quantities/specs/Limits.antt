@@ -1,4 +1,4 @@
--- The most buses of an hour; networks have the same limit, as a definition of their own. Assumes nothing.
+-- The most buses of an hour, and of a network. Assumes nothing.
 use Rattle.std.specs.Prelude.{ℕ}
 
 abbrev pub most_buses : ℕ

@@ -4,32 +4,33 @@ ghost use Rattle.std.proofs.Common.{rules};
 use crate::quantity::Quantity;
 
 // Whole tenths of a megawatt. Withdrawals are above nought, injections below.
-#[derive(Clone, Copy)]
+#[derive(Clone, Copy, PartialEq, Eq, Debug)]
 pub struct Megawatts(pub i64);
 
 // A distribution factor: whole thousandths.
-#[derive(Clone, Copy)]
+#[derive(Clone, Copy, PartialEq, Eq, Debug)]
 pub struct Factor(pub i16);
 
 // A shadow price: whole cents for a megawatt-hour.
-#[derive(Clone, Copy)]
+#[derive(Clone, Copy, PartialEq, Eq, Debug)]
 pub struct ShadowPrice(pub i32);
 
 // Ten-thousandths of a cent.
-#[derive(Clone, Copy)]
+#[derive(Clone, Copy, PartialEq, Eq, Debug)]
 pub struct Grains(pub i64);
 
 #[derive(Clone, Copy, PartialEq, Eq, Debug)]
 pub struct Cents(pub i64);
 
 // Shadow price times factor: grains for a tenth of a megawatt in one hour.
-#[derive(Clone, Copy)]
+#[derive(Clone, Copy, PartialEq, Eq, Debug)]
 pub struct CongestionPrice(pub i64);
 
 // Factor times megawatts: thousandths of a tenth of a megawatt over a constraint.
-#[derive(Clone, Copy)]
+#[derive(Clone, Copy, PartialEq, Eq, Debug)]
 pub struct Flow(pub i64);
 
+// An impl for each unit, since a unit is a struct of its own: with one `Amount<Unit>`, `Cents(5)` would be `Amount::<Cent>::new(5)`.
 impl Quantity for Megawatts {
     ghost units = { λ x. x.0 };
 

@@ -1,2 +1,2 @@
-// The most buses of an hour. `networks` has the same limit, as a constant of its own.
+// The most buses of an hour, and of a network.
 pub const MAX_BUSES: u16 = 32;

@@ -33,10 +33,7 @@ impl ShadowPrice {
     pub fn times_flow(self, flow: Flow) -> Option<Grains>
         ensures { Exact (λ x. x.0) result (self.0 *ℤ flow.0) }
     {
-        match i64::from(self.0).checked_mul(flow.0) {
-            Some(product) => Some(Grains(product)),
-            None => None,
-        }
+        i64::from(self.0).checked_mul(flow.0).map(Grains)
     }
 }
 
@@ -45,10 +42,7 @@ impl CongestionPrice {
     pub fn times_megawatts(self, megawatts: Megawatts) -> Option<Grains>
         ensures { Exact (λ x. x.0) result (self.0 *ℤ megawatts.0) }
     {
-        match self.0.checked_mul(megawatts.0) {
-            Some(product) => Some(Grains(product)),
-            None => None,
-        }
+        self.0.checked_mul(megawatts.0).map(Grains)
     }
 }
 
@@ -57,10 +51,7 @@ impl Factor {
     pub fn times_megawatts(self, megawatts: Megawatts) -> Option<Flow>
         ensures { Exact (λ x. x.0) result (self.0 *ℤ megawatts.0) }
     {
-        match i64::from(self.0).checked_mul(megawatts.0) {
-            Some(product) => Some(Flow(product)),
-            None => None,
-        }
+        i64::from(self.0).checked_mul(megawatts.0).map(Flow)
     }
 
     // How many thousandths two factors lie apart.

@@ -16,20 +16,16 @@ pub trait Quantity: Copy {
     fn checked_add(self, other: Self) -> Option<Self>
         ensures { Exact units result (units self +ℤ units other) }
     {
-        match self.units().checked_add(other.units()) {
-            Some(sum) => Some(Self::from_units(sum)),
-            None => None,
-        }
+        let sum = self.units().checked_add(other.units())?;
+        Some(Self::from_units(sum))
     }
 
     // The difference, or None where it does not fit 64 bits.
     fn checked_sub(self, other: Self) -> Option<Self>
         ensures { Exact units result (units self -ℤ units other) }
     {
-        match self.units().checked_sub(other.units()) {
-            Some(difference) => Some(Self::from_units(difference)),
-            None => None,
-        }
+        let difference = self.units().checked_sub(other.units())?;
+        Some(Self::from_units(difference))
     }
 
     // a quantity is its number of units, and nothing besides

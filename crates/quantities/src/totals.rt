@@ -12,8 +12,8 @@ pub fn total<Q: Quantity>(row: &[Q]) -> Option<Q>
     for quantity in row {
         sum += i128::from(quantity.units());
     }
-    match i64::try_from(sum) {
-        Ok(units) => Some(Q::from_units(units)),
-        Err(_) => None,
-    }
+    let Ok(units) = i64::try_from(sum) else {
+        return None;
+    };
+    Some(Q::from_units(units))
 }

@@ -13,14 +13,14 @@ loop-quantity-preserved g c =
     let fits : SFits w64 c.units.result = search rules in
     (omega (arith, ints), omega (arith, ints))
 
-pub returns-in-Ok : goal.returns-in-Ok
-returns-in-Ok g c =
+pub returns : goal.returns
+returns g c =
     let h = c.in-Ok.ensures in
     let none = sum_of_none_left g.Q.Quantity.units c.args.row.now c.loop-quantity.quantity-index c.loop-quantity-test.false in
     let fits = h.0 in
     (omega (arith, ints), omega (arith, ints))
 
-pub returns-in-Err : goal.returns-in-Err
-returns-in-Err g c fits =
+pub returns-in_default : goal.returns-in_default
+returns-in_default g c fits =
     let none = sum_of_none_left g.Q.Quantity.units c.args.row.now c.loop-quantity.quantity-index c.loop-quantity-test.false in
-    c.in-Err.ensures (omega (arith, ints))
+    c.in_default.ensures (omega (arith, ints))
