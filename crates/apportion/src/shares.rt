@@ -8,6 +8,7 @@ ghost use Rattle.quantities.specs.Sums.{at, atℕ};
 ghost use Rattle.apportion.specs.Split.{Fair, SumRefused, SplitRefused, Toward, shares, whole};
 
 use crate::items::WeightedItem;
+use crate::running::Running;
 use quantities::Quantity;
 use refusals::Cause;
 
@@ -52,6 +53,7 @@ pub fn weight_sum<I: WeightedItem>(items: &[I]) -> Result<u64, Cause>
     Ok(sum)
 }
 
+// By its place: after `zip(row.iter_mut())` a proof knows nothing of what the row holds.
 fn fill<Q: Quantity, I: WeightedItem>(amount: Q, items: &[I], sum: u64, row: &mut [Q])
     requires length { length row.old ≡ length items.now }
     requires sum { sum ≡ whole (map I.WeightedItem.weighs items.now) }
@@ -59,55 +61,19 @@ fn fill<Q: Quantity, I: WeightedItem>(amount: Q, items: &[I], sum: u64, row: &mu
     requires most { sum ≤ 2000000000 }
     ensures { map Q.Quantity.units row.new ≡ shares (Q.Quantity.units amount) (map I.WeightedItem.weighs items.now) }
 {
-    let mut before = Running {
-        weight: 0,
-        given: 0,
-    };
+    let mut running = Running::over(sum);
     for (i, item) in items.iter().enumerate() {
-        let after = before.with(item.weight(), amount.units(), sum);
-        row[i] = Q::from_units(after.since(before));
-        before = after;
+        let share = running.give(exact_part(amount.units(), item.weight()));
+        row[i] = Q::from_units(share);
     }
 }
 
-// The weight of the items so far, and what they were given together.
-#[derive(Clone, Copy)]
-struct Running {
-    weight: u64,
-    given: i64,
-}
-
-impl Running {
-    // One item more of an amount that is split over `sum`.
-    fn with(self, item: u64, amount: i64, sum: u64) -> Running
-        requires some { 0 < sum }
-        requires most { sum ≤ 2000000000 }
-        requires within { self.weight + item ≤ sum }
-        ensures weight { result.weight ≡ self.weight + item }
-        ensures given { result.given ≡ floor (amount *ℤ pos (self.weight + item)) sum }
-    {
-        let weight = self.weight + item;
-        let given = up_to(amount, weight, sum);
-        Running { weight, given }
-    }
-
-    // What was given since then.
-    fn since(self, before: Running) -> i64
-        requires { FitsSigned w64 (self.given -ℤ before.given) }
-        ensures { result ≡ self.given -ℤ before.given }
-    {
-        self.given - before.given
-    }
-}
-
-// What items of this weight together get, rounded down.
-fn up_to(amount: i64, weight: u64, sum: u64) -> i64
-    requires some { 0 < sum }
-    requires most { sum ≤ 2000000000 }
-    requires within { weight ≤ sum }
-    ensures { result ≡ floor (amount *ℤ pos weight) sum }
+// An item's part of the amount, times the sum of the weights.
+fn exact_part(amount: i64, weight: u64) -> i128
+    requires { weight ≤ 2000000000 }
+    ensures { result ≡ amount *ℤ pos weight }
 {
-    (i128::from(amount) * i128::from(weight)).div_euclid(i128::from(sum)) as i64
+    i128::from(amount) * i128::from(weight)
 }
 
 // Splits at the ends of what the numbers hold, and every refusal.

@@ -1,8 +1,7 @@
 // One constraint's congestion and one area's load, each split over buses; a split that is refused; and splits by hand.
 use crate::show;
 use anyhow::anyhow;
-use apportion::{AreaMember, LoadBus, split, worked_splits};
-use carried_cents::worked_cents;
+use apportion::{AreaMember, LoadBus, split, worked_cents, worked_splits};
 use quantities::{Cents, Flow, Megawatts, ShadowPrice};
 
 // From the flow over a constraint to whole cents at each load bus behind it.

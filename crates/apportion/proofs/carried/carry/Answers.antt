@@ -2,7 +2,7 @@ use Rattle.std.proofs.Common.{ap, ◌∙◌}
 use Rattle.quantities.specs.Sums.{sum_of}
 use Rattle.quantities.specs.Views.{grains}
 use Rattle.quantities.proofs.Carrying.{carried_row_adds}
-use Rattle.carried_cents.proofs.carry.Goals as goal
+use Rattle.apportion.proofs.carried.carry.Goals as goal
 
 pub returns : goal.returns
 returns c =
