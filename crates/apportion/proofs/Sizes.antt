@@ -1,11 +1,10 @@
 -- How large the numbers of a split get. Assumes nothing.
-use Rattle.std.proofs.Common.{◌≡◌, ℕ, ◌+◌, ◌^◌, ◌<◌, ◌≤◌, ℤ, pos, negsuc, ◌+ℤ◌, ◌-ℤ◌, ◌*ℤ◌, sym, ap, ◌∙◌, subst, arith, lit<, w64, SFits}
+use Rattle.std.proofs.Common.{◌≡◌, ℕ, ◌+◌, ◌^◌, ◌<◌, ◌≤◌, ℤ, pos, negsuc, ◌+ℤ◌, ◌-ℤ◌, ◌*ℤ◌, sym, ap, ◌∙◌, arith, lit<, w64, SFits}
 use borrow.Author.Differences.{ints}
 use mir.Syntax.{Width, w128}
 use Rattle.quantities.specs.Rounding.{floor}
 use Rattle.quantities.proofs.Bounds.{product_fits}
 use Rattle.quantities.proofs.Ring.{*ℤ-+ℤ}
-use Rattle.quantities.proofs.Floors.{floor_nought}
 use Rattle.apportion.specs.Split.{Toward}
 use Rattle.apportion.proofs.Laws.{between_toward}
 
@@ -16,14 +15,6 @@ toward_fits w (negsuc a) z f t = omega (arith, ints)
 -- what is given between two weights of W fits the amount's width
 pub between_fits : (w : Width) (A : ℤ) (W p q : ℕ) → SFits w A → 0 < W → p ≤ q → q ≤ W → SFits w (floor (A *ℤ pos q) W -ℤ floor (A *ℤ pos p) W)
 between_fits w A W p q f h l m = toward_fits w A _ f (between_toward A W p q h l m)
-
--- and so does what is given up to one
-pub up_to_fits : (w : Width) (A : ℤ) (W q : ℕ) → SFits w A → 0 < W → q ≤ W → SFits w (floor (A *ℤ pos q) W)
-up_to_fits w A W q f h m =
-    let low = floor_nought A W h in
-    let b = between_fits w A W 0 q f h (omega arith) m in
-    let e : floor (A *ℤ pos q) W -ℤ floor (A *ℤ pos 0) W ≡ floor (A *ℤ pos q) W = omega (arith, ints) in
-    subst (SFits w) e b
 
 -- 63 bits and 31 make at most 94
 pub weighted_fits : (A : ℤ) (q : ℕ) → SFits w64 A → q ≤ 2000000000 → SFits w128 (A *ℤ pos q)

@@ -1,16 +1,15 @@
-use Rattle.std.proofs.Common.{◌≡◌, ℕ, ◌+◌, ◌<◌, ◌≤◌, List, length, get_or, set, ℤ, pos, ◌+ℤ◌, ◌-ℤ◌, sym, ap, ◌∙◌, arith, w64, SFits, to_z, of_z, rules}
+use Rattle.std.proofs.Common.{◌≡◌, ℕ, ◌+◌, ◌<◌, ◌≤◌, List, length, get_or, ℤ, pos, ◌+ℤ◌, ◌-ℤ◌, sym, ap, ◌∙◌, arith, w64, SFits, to_z, of_z, rules}
 use mir.Syntax.{w128}
-use Rattle.std.proofs.lemmas.List.FromFn.{fill_by_all}
-use Rattle.std.proofs.lemmas.List.Edits.{fill_by_more}
-use Rattle.std.proofs.lemmas.List.{get_or-map, length-map, map-set}
+use Rattle.std.proofs.lemmas.List.{get_or-map, length-map}
 use Rattle.std.proofs.lemmas.Int.{to_z-of_z}
 use Rattle.quantities.specs.declared.kinds.Cents.{Cents}
 use Rattle.quantities.specs.declared.kinds.Grains.{Grains}
 use Rattle.quantities.specs.Sums.{sum, at}
 use Rattle.quantities.specs.Rounding.{floor, carried}
-use Rattle.quantities.specs.Views.{cents, grains}
+use Rattle.quantities.specs.Views.{grains}
 use Rattle.quantities.proofs.SumLaws.{sum_more}
 use Rattle.quantities.proofs.Carrying.{within_more}
+use Rattle.apportion.proofs.Steps.{place_filled, row_filled}
 use Rattle.apportion.proofs.carried.fill_carried.Goals as goal
 
 -- the amount at k, as the definition reads it
@@ -35,15 +34,15 @@ loop-k-preserved c =
     to_z-of_z w64 c.give.result small ∙ c.give.ensures.share ∙ ap (λ z. floor z d -ℤ floor exact d) up ∙ ap (λ z. floor (sum (k + 1) g) d -ℤ floor z d) c.loop-k.invariant.1
     ∙ ap (λ n. floor (sum (k + 1) g) n -ℤ floor (sum k g) n) c.loop-k.invariant.0 ∙ ap (λ z. floor z 10000 -ℤ floor (sum k g) 10000) (sum_more k g) in
     let new : Cents = record { 0 = to_z w64 (of_z w64 c.give.result) } in
-    let room : k < length (cents row) = rw length-map (omega arith) in
-    let put : cents (set row k new) ≡ set (cents row) k (carried 10000 g k) = map-set (λ (y : Cents). y.0) row k new ∙ ap (λ z. set (cents row) k z) share in
+    let room : k < length row = omega arith in
     let total : c.give.new.self.exact ≡ exact +ℤ x = c.give.ensures.exact ∙ ap (λ z. exact +ℤ z) part in
-    (c.give.ensures.divisor ∙ c.loop-k.invariant.0, c.give.ensures.exact ∙ up, within_more exact x c.give.new.self.exact k c.loop-k.invariant.2 fits total, λ i l. ap (λ zs. at zs i) put ∙ fill_by_more (carried 10000 g) (cents row) k (pos 0) room c.loop-k.invariant.3 i l)
+    (c.give.ensures.divisor ∙ c.loop-k.invariant.0, c.give.ensures.exact ∙ up, within_more exact x c.give.new.self.exact k c.loop-k.invariant.2 fits total, place_filled (λ (y : Cents). y.0) (carried 10000 g) row k new room share c.loop-k.invariant.3)
 
 pub returns : goal.returns
 returns c =
     let xs = c.args.exact.now in
     let row = c.loop-k.row in
-    let long : length (cents row) ≡ length (grains xs) = length-map row (λ (y : Cents). y.0) ∙ (let e : length row ≡ length xs = omega arith in e) ∙ sym (length-map xs (λ (y : Grains). y.0)) in
-    let end : length (grains xs) ≤ c.loop-k.k = rw length-map (omega arith) in
-    fill_by_all (carried 10000 (at (grains xs))) (cents row) (length (grains xs)) (pos 0) long (λ i l. c.loop-k.invariant.3 i (omega arith))
+    let n = length (grains xs) in
+    let long : length row ≡ n = (let e : length row ≡ length xs = omega arith in e) ∙ sym (length-map xs (λ (y : Grains). y.0)) in
+    let end : n ≤ c.loop-k.k = rw length-map (omega arith) in
+    row_filled (λ (y : Cents). y.0) (carried 10000 (at (grains xs))) row c.loop-k.k n long end c.loop-k.invariant.3

@@ -1,15 +1,13 @@
-use Rattle.std.proofs.Common.{◌≡◌, ℕ, suc, ◌+◌, ◌<◌, ◌≤◌, map, length, set, ℤ, pos, ◌+ℤ◌, ◌-ℤ◌, ◌*ℤ◌, sym, ap, ◌∙◌, subst, arith, w64, SFits, to_z, of_z, rules}
+use Rattle.std.proofs.Common.{◌≡◌, ℕ, suc, ◌+◌, ◌<◌, ◌≤◌, map, length, ℤ, pos, ◌+ℤ◌, ◌-ℤ◌, ◌*ℤ◌, sym, ap, ◌∙◌, subst, arith, w64, SFits, to_z, of_z, rules}
 use mir.Syntax.{w128}
-use Rattle.std.proofs.lemmas.List.FromFn.{fill_by_all}
-use Rattle.std.proofs.lemmas.List.Edits.{fill_by_more}
-use Rattle.std.proofs.lemmas.List.{length-map, map-set}
+use Rattle.std.proofs.lemmas.List.{length-map}
 use Rattle.std.proofs.lemmas.Int.{to_z-of_z}
-use Rattle.quantities.specs.Sums.{sumℕ, at, atℕ}
+use Rattle.quantities.specs.Sums.{sumℕ, atℕ}
 use Rattle.quantities.specs.Rounding.{floor}
 use Rattle.quantities.proofs.SumLaws.{sumℕ_grows, sumℕ_more}
 use Rattle.apportion.specs.Split.{share}
 use Rattle.apportion.proofs.Sizes.{between_fits, weighted_fits, weighted_more}
-use Rattle.apportion.proofs.Steps.{weights_more}
+use Rattle.apportion.proofs.Steps.{weights_more, place_filled, row_filled}
 use Rattle.apportion.proofs.shares.fill.Goals as goal
 use Rattle.apportion.proofs.shares.fill.Goals.{After-weight, After-exact_part}
 use Rattle.apportion.proofs.shares.fill.Given as given
@@ -93,16 +91,16 @@ loop-i-preserved g c =
     let value : u new ≡ share A (length ws) (atℕ ws) i =
     c.from_units.ensures ∙ to_z-of_z w64 c.give-share.result small ∙ c.give-share.ensures.share ∙ s.is
     ∙ ap (λ k. floor (A *ℤ pos k) W -ℤ floor (A *ℤ pos p) W) (sumℕ_more i (atℕ ws)) ∙ ap (λ k. floor (A *ℤ pos (sumℕ (suc i) (atℕ ws))) k -ℤ floor (A *ℤ pos p) k) c.requires.sum in
-    let room : i < length (map u row) = rw length-map (omega arith) in
-    let put : map u (set row i new) ≡ set (map u row) i (share A (length ws) (atℕ ws) i) = map-set u row i new ∙ ap (λ z. set (map u row) i z) value in
-    (c.give-share.ensures.divisor ∙ c.loop-i.invariant.0, c.give-share.ensures.exact ∙ s.more, λ k l. ap (λ zs. at zs k) put ∙ fill_by_more (share A (length ws) (atℕ ws)) (map u row) i (pos 0) room c.loop-i.invariant.2 k l)
+    let room : i < length row = omega arith in
+    (c.give-share.ensures.divisor ∙ c.loop-i.invariant.0, c.give-share.ensures.exact ∙ s.more, place_filled u (share A (length ws) (atℕ ws)) row i new room value c.loop-i.invariant.2)
 
 pub returns : goal.returns
 returns g c =
     let u = g.Q.Quantity.units in
-    let A = u c.args.amount in
-    let ws = map g.I.WeightedItem.weighs c.args.items.now in
+    let f = g.I.WeightedItem.weighs in
+    let xs = c.args.items.now in
+    let ws = map f xs in
     let row = c.loop-i.row in
-    let long : length (map u row) ≡ length ws = length-map row u ∙ (let e : length row ≡ length c.args.items.now = omega arith in e) ∙ sym (length-map c.args.items.now g.I.WeightedItem.weighs) in
+    let long : length row ≡ length ws = (let e : length row ≡ length xs = omega arith in e) ∙ sym (length-map xs f) in
     let end : length ws ≤ c.loop-i.i = rw length-map (omega arith) in
-    fill_by_all (share A (length ws) (atℕ ws)) (map u row) (length ws) (pos 0) long (λ k l. c.loop-i.invariant.2 k (omega arith))
+    row_filled u (share (u c.args.amount) (length ws) (atℕ ws)) row c.loop-i.i (length ws) long end c.loop-i.invariant.2
