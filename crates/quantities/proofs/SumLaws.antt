@@ -1,10 +1,9 @@
 -- The laws of sums over indices and over lists. Assumes nothing.
-use Rattle.std.proofs.Common.{◌≡◌, ℕ, zero, suc, ◌+◌, ◌<◌, ◌≤◌, List, [], ◌∷◌, ◌++◌, length, get_or, drop, ℤ, pos, ◌+ℤ◌, ◌-ℤ◌, ◌*ℤ◌, sym, refl, ap, ◌∙◌, ⊎_elim, zero-add, add-one, arith}
+use Rattle.std.proofs.Common.{◌≡◌, ℕ, zero, suc, ◌+◌, ◌<◌, ◌≤◌, List, [], ◌∷◌, ◌++◌, length, ℤ, pos, ◌+ℤ◌, ◌-ℤ◌, ◌*ℤ◌, sym, refl, ap, ◌∙◌, ⊎_elim, zero-add, add-one, arith}
 use lib.IntN.{*ℤ_comm, *ℤ-zero, zero-*ℤ}
 use borrow.Author.Differences.{ints}
 use Rattle.std.proofs.lemmas.List.FromFn.{get_or-map-range_with_len, length-map-range_with_len}
 use Rattle.std.specs.List.{AllByRecursion}
-use Rattle.std.proofs.lemmas.List.{at_drop_more, at_drop_all}
 use Rattle.std.proofs.lemmas.Bool.{cases_lt}
 use Rattle.std.proofs.lemmas.Bool.Decides.{nat_tests}
 use Rattle.quantities.specs.Sums.{sum, sumℕ, sum_of, count_of, same, at, atℕ, row_of}
@@ -149,13 +148,6 @@ module _ {A : Type 0} where
       let here : f x ≡ g x = e x h.0 in
       let rest = sum_of_same P f g e xs h.1 in
       omega (arith, ints)
-
-  -- what is left of a list when one more element is read, and at its end
-  pub sum_of_left : (f : A → ℤ) (xs : List A) (i : ℕ) (x : A) → i < length xs → x ≡ get_or xs i x → sum_of f (drop i xs) ≡ f x +ℤ sum_of f (drop (i + 1) xs)
-  sum_of_left f xs i x h e = at_drop_more (sum_of f) xs i x h ∙ ap (λ y. f y +ℤ sum_of f (drop (i + 1) xs)) (sym e)
-
-  pub sum_of_none_left : (f : A → ℤ) (xs : List A) (i : ℕ) → length xs ≤ i → sum_of f (drop i xs) ≡ pos 0
-  sum_of_none_left f xs i h = at_drop_all (sum_of f) xs i h
 
   -- a sum over indices and one over a list change places
   pub sum_of_swap : (n : ℕ) (f : ℕ → A → ℤ) (xs : List A) → sum n (λ i. sum_of (f i) xs) ≡ sum_of (λ x. sum n (λ i. f i x)) xs

@@ -4,10 +4,5 @@ use Rattle.quantities.specs.Views.{grains}
 use Rattle.quantities.proofs.Carrying.{carried_row_adds}
 use Rattle.apportion.proofs.carried.carry.Goals as goal
 
-pub returns : goal.returns
-returns c =
-    record {
-      answer = λ _ h. h.1 c.if-row-exact.false;
-      places = c.fill_carried.ensures;
-      adds = ap (λ zs. sum_of (λ z. z) zs) c.fill_carried.ensures ∙ carried_row_adds 10000 (grains c.args.exact.now);
-    }
+pub returns-clause-adds : goal.returns-clause-adds
+returns-clause-adds c = ap (λ zs. sum_of (λ z. z) zs) c.fill_carried.ensures ∙ carried_row_adds 10000 (grains c.args.exact.now)
