@@ -1,6 +1,6 @@
 // A table and a radial network, each weighed, made and asked for its prices.
 use crate::show;
-use anyhow::anyhow;
+use anyhow::bail;
 use networks::{Network, Radial, RadialConstraint, Table, congestion_price};
 use quantities::{Factor, ShadowPrice};
 use std::io;
@@ -40,7 +40,7 @@ pub(crate) fn radial(rt: &HostRuntime) -> anyhow::Result<()> {
 // Two factors of one constraint that lie too far apart.
 pub(crate) fn outside_limits(rt: &HostRuntime) -> anyhow::Result<()> {
     let Err(cause) = Table::weigh(2, &[ShadowPrice(0)], &[Factor(1_000), Factor(-1_001)]) else {
-        return Err(anyhow!("a table outside the limits was taken"));
+        bail!("a table outside the limits was taken");
     };
     println!(rt; "   factors of 1000 and -1001 in one constraint: {cause}")?;
     Ok(())

@@ -1,5 +1,5 @@
 // How figures are told.
-use anyhow::anyhow;
+use anyhow::{Context, bail};
 use apportion::WeightedItem;
 use quantities::{Quantity, total};
 use std::io;
@@ -8,7 +8,7 @@ pub(crate) fn say(rt: &HostRuntime, text: &str) -> io::Result<()> {
     println!(rt; "{text}")
 }
 
-// A number with its unit.
+// A number with its unit, whose name is a word of this program: with a `Display` for each kind there would be six twins.
 pub(crate) fn figure(rt: &HostRuntime, what: &str, number: i64, unit: &str) -> io::Result<()> {
     println!(rt; "   {what}: {number} {unit}")
 }
@@ -38,11 +38,9 @@ pub(crate) fn sum<Q: Quantity>(
     row: &[Q],
     unit: &str,
 ) -> anyhow::Result<()> {
-    let Some(sum) = total(row) else {
-        return Err(anyhow!("the shares do not fit 64 bits"));
-    };
+    let sum = total(row).context("the shares do not fit 64 bits")?;
     if sum.units() != amount.units() {
-        return Err(anyhow!("the shares do not add up"));
+        bail!("the shares do not add up");
     }
     figure(
         rt,

@@ -1,6 +1,6 @@
 // One constraint's congestion and one area's load, each split over buses; a split that is refused; and splits by hand.
 use crate::show;
-use anyhow::anyhow;
+use anyhow::{Context, bail};
 use apportion::{AreaMember, LoadBus, split, worked_cents, worked_splits};
 use quantities::{Cents, Flow, Megawatts, ShadowPrice};
 
@@ -11,9 +11,9 @@ pub(crate) fn congestion(rt: &HostRuntime) -> anyhow::Result<()> {
     let flow = Flow(-1_233_100);
     show::figure(rt, "shadow price", i64::from(price.0), "cents per MWh")?;
     show::figure(rt, "flow", flow.0, "thousandths of a tenth of a megawatt")?;
-    let Some(grains) = price.times_flow(flow) else {
-        return Err(anyhow!("the congestion does not fit 64 bits"));
-    };
+    let grains = price
+        .times_flow(flow)
+        .context("the congestion does not fit 64 bits")?;
     let cents = grains.floor_to_cents();
     show::figure(rt, "congestion is price times flow", grains.0, "grains")?;
     show::figure(rt, "rounded down", cents.0, "cents")?;
@@ -70,7 +70,7 @@ pub(crate) fn refused(rt: &HostRuntime) -> anyhow::Result<()> {
     let buses = [LoadBus { bus: 0, weight: 0 }];
     let mut row = [Cents(7); 1];
     let Err(cause) = split(Cents(100), &buses, &mut row) else {
-        return Err(anyhow!("a split over no weight was taken"));
+        bail!("a split over no weight was taken");
     };
     println!(rt; "   100 cents over a weight of 0: {cause}")?;
     show::row(rt, "the row still holds", &row)?;
