@@ -1,6 +1,5 @@
 // The ledger: records of one kind of position in a slice that the caller lends.
-ghost use Rattle.std.specs.Prelude.{◌≡◌, ◌-◌, length, take, drop};
-ghost use Rattle.ledgers.specs.Book.{Amended, OpenAt, Appended, book, closed, closed_book, empty};
+ghost use Rattle.std.specs.Prelude.{◌≡◌, ◌-◌, ◌≤◌, length, take, drop};
 
 use positions::Position;
 use refusals::Cause;
@@ -11,6 +10,8 @@ pub struct Ledger<'a, P> {
     records: &'a mut [P],
     len: usize,
     mark: usize,
+    ghost fits: { len ≤ length records.now },
+    ghost marked: { mark ≤ len },
 }
 
 // A ledger that no call changes any more. What stands before `mark` is of the day-ahead phase.
@@ -19,9 +20,13 @@ pub struct ClosedLedger<'a, P> {
     records: &'a [P],
     len: usize,
     mark: usize,
+    ghost fits: { len ≤ length records.now },
+    ghost marked: { mark ≤ len },
 }
 
 impl<'a, P: Position> Ledger<'a, P> {
+    ghost use Rattle.ledgers.specs.Book.{Amended, OpenAt, Appended, book, closed, closed_book, empty};
+
     // An empty ledger, with room for as many records as the slice has.
     pub fn new(records: &'a mut [P]) -> Ledger<'a, P>
         ensures book { book result ≡ empty P (length records.old) }
@@ -121,6 +126,8 @@ impl<'a, P: Position> Ledger<'a, P> {
 }
 
 impl<'a, P: Position> ClosedLedger<'a, P> {
+    ghost use Rattle.ledgers.specs.Book.{closed_book};
+
     // All records, in the order in which they were posted.
     pub fn standing(&self) -> &'a [P]
         ensures records { result.now ≡ (closed_book self.now).items }
