@@ -31,6 +31,10 @@ closed b = record { capacity = b.capacity; mark = length b.items; items = b.item
 abbrev pub holding : {P : Type 0} → Book P → List P → Book P
 holding b xs = record { capacity = b.capacity; mark = b.mark; items = xs }
 
+-- the record of a number is one of the open phase
+abbrev pub IsOpen : {P : Type 0} → Book P → ℕ → Type 0
+IsOpen b i = (b.mark ≤ i) × (i < length b.items)
+
 -- a record is added at the end and answered by its number, where there is room
 abbrev pub Appended : {P : Type 0} → Book P → P → Result ℕ Cause → Book P → Type 0
 Appended b x (Ok i) e = (length b.items < b.capacity) × (i ≡ length b.items) × (e ≡ holding b (b.items ++ (x ∷ [])))
