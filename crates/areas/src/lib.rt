@@ -1,7 +1,7 @@
 // The load of an area, spread over its members by their shares.
 #![tactic(auto)]
 
-ghost use Rattle.std.specs.Prelude.{◌≡◌, ◌+◌, ◌≤◌, ◌++◌, length, pos, MatchResult};
+ghost use Rattle.std.specs.Prelude.{◌≡◌, ◌+◌, ◌≤◌, ◌++◌, length, pos, IfOk, MatchResult};
 ghost use Rattle.apportion.specs.Split.{shares, whole};
 ghost use Rattle.ledgers.specs.Book.{book, holding};
 ghost use Rattle.ledgers.specs.Limits.{most_records};
@@ -36,7 +36,11 @@ pub fn post_area(
     members: &[AreaMember],
 ) -> Result<usize, Cause>
     ensures answer { Answered (AreaRefused (book ledger.old) members.now) result }
-    ensures posted { MatchResult result (λ i. (i ≡ length (book ledger.old).items) × (book ledger.new ≡ holding (book ledger.old) ((book ledger.old).items ++ loads participant members.now (shares (pos tenths) (shares_by members.now))))) (λ _. book ledger.new ≡ book ledger.old) }
+    ensures posted { MatchResult result
+        (λ i. (i ≡ length (book ledger.old).items)
+        × (book ledger.new ≡ holding (book ledger.old) ((book ledger.old).items
+        ++ loads participant members.now (shares (pos tenths) (shares_by members.now)))))
+        (λ _. book ledger.new ≡ book ledger.old) }
 {
     if members.len() > MAX_RECORDS {
         return Err(Cause::LedgerFull);
@@ -44,29 +48,14 @@ pub fn post_area(
     if members.len() > ledger.room() {
         return Err(Cause::LedgerFull);
     }
-    weigh_shares(members)?;
+    let load = AreaLoad::new(participant, tenths, members)?;
     let first = ledger.count();
-    let load = AreaLoad {
-        participant,
-        tenths,
-        members,
-    };
     load.post(ledger);
     Ok(first)
 }
 
-// Whether the members' shares make up the whole. There are members then, too.
-fn weigh_shares(members: &[AreaMember]) -> Result<(), Cause>
-    ensures { SharesWeighed members.now result }
-{
-    match weight_sum(members) {
-        Ok(WHOLE) => Ok(()),
-        _ => Err(Cause::AreaNotWhole),
-    }
-}
-
 // An M of one participant, over the members of a whole area.
-#[derive(Clone, Copy)]
+#[derive(Drop)]
 struct AreaLoad<'a> {
     participant: u8,
     tenths: u32,
@@ -76,12 +65,33 @@ struct AreaLoad<'a> {
 }
 
 impl<'a> AreaLoad<'a> {
+    // The load, if the members' shares make up the whole. There are members then, too.
+    fn new(participant: u8, tenths: u32, members: &'a [AreaMember]) -> Result<AreaLoad<'a>, Cause>
+        requires { length members.now ≤ most_records }
+        ensures weighed { SharesWeighed members.now result }
+        ensures participant { IfOk result (λ load. load.participant ≡ participant) }
+        ensures tenths { IfOk result (λ load. load.tenths ≡ tenths) }
+        ensures members { IfOk result (λ load. load.members.now ≡ members.now) }
+    {
+        match weight_sum(members) {
+            Ok(WHOLE) => Ok(AreaLoad {
+                participant,
+                tenths,
+                members,
+            }),
+            _ => Err(Cause::AreaNotWhole),
+        }
+    }
+
     // Spreads the M over the members by their shares, one load record for each.
     fn post(&self, ledger: &mut Ledger<BusPosition>)
-        requires { length (book ledger.old).items + length self.now.members.now ≤ (book ledger.old).capacity }
-        ensures { book ledger.new ≡ holding (book ledger.old) ((book ledger.old).items ++ loads self.now.participant self.now.members.now (shares (pos self.now.tenths) (shares_by self.now.members.now))) }
+        requires { length (book ledger.old).items + length self.now.members.now
+            ≤ (book ledger.old).capacity }
+        ensures { book ledger.new ≡ holding (book ledger.old) ((book ledger.old).items
+            ++ loads self.now.participant self.now.members.now
+            (shares (pos self.now.tenths) (shares_by self.now.members.now))) }
     {
-        // an hour uses no heap, so the row of the parts is on the stack, with places for the longest area
+        // An hour uses no heap, so the parts are on the stack, in a row for the longest area.
         let mut row = [Megawatts(0); MAX_RECORDS];
         let parts = &mut row[..self.members.len()];
         self.share_out(parts);
@@ -98,8 +108,10 @@ impl<'a> AreaLoad<'a> {
 
     // Posts one load for each member, with the megawatts of its place in the row.
     fn post_parts(&self, ledger: &mut Ledger<BusPosition>, row: &[Megawatts])
-        requires { length (book ledger.old).items + length self.now.members.now ≤ (book ledger.old).capacity }
-        ensures { book ledger.new ≡ holding (book ledger.old) ((book ledger.old).items ++ loads self.now.participant self.now.members.now (units row.now)) }
+        requires { length (book ledger.old).items + length self.now.members.now
+            ≤ (book ledger.old).capacity }
+        ensures { book ledger.new ≡ holding (book ledger.old) ((book ledger.old).items
+            ++ loads self.now.participant self.now.members.now (units row.now)) }
     {
         for (member, megawatts) in self.members.iter().zip(row) {
             ledger

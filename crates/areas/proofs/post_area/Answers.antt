@@ -13,10 +13,10 @@ pub returns-then-members-room-clause-answer : goal.returns-then-members-room-cla
 returns-then-members-room-clause-answer c = area_full _ _ (no_room (omega (arith, c.room.ensures)))
 
 -- the members find room, since what stands is no longer than the slice
-pub returns-in_err-weigh_shares-clause-answer : goal.returns-in_err-weigh_shares-clause-answer
-returns-in_err-weigh_shares-clause-answer c =
+pub returns-in_err-load-clause-answer : goal.returns-in_err-load-clause-answer
+returns-in_err-load-clause-answer c =
     let l = c.args.ledger.now in
-    let q = c.in_err-weigh_shares.ensures in
+    let q = c.in_err-load.ensures.weighed in
     let e = err_from_is_err_and c.from_residual.result c.from_residual.ensures.1 in
     let room : length (book l).items + length c.args.members.now ≤ (book l).capacity = omega (arith, c.room.ensures, length-take l.len l.records.now) in
     rw (e.1, e.2, q.0) (area_apart (book l) c.args.members.now c.if-members-gt-MAX_RECORDS.false room q.1)
@@ -24,4 +24,4 @@ returns-in_err-weigh_shares-clause-answer c =
 pub returns-clause-answer : goal.returns-clause-answer
 returns-clause-answer c =
     let l = c.args.ledger.now in
-    area_clear (book l) c.args.members.now c.if-members-gt-MAX_RECORDS.false (omega (arith, c.room.ensures, length-take l.len l.records.now)) c.in_ok-weigh_shares.ensures
+    area_clear (book l) c.args.members.now c.if-members-gt-MAX_RECORDS.false (omega (arith, c.room.ensures, length-take l.len l.records.now)) c.in_ok-load.ensures.weighed
