@@ -76,6 +76,7 @@ impl<'a, P: Position> Ledger<'a, P> {
         if !self.is_open(number) {
             return Err(Cause::RecordNotOpen);
         }
+        // Reborrowed first: an element is not yet lent through a struct that has a ghost field.
         let records = &mut *self.records;
         let record = &mut records[number];
         *record = record.with_tenths(tenths);
