@@ -3,7 +3,7 @@
 
 ghost use Rattle.std.specs.Prelude.{◌≡◌, ◌+◌, ◌≤◌, ◌++◌, length, pos, IfOk, MatchResult};
 ghost use Rattle.apportion.specs.Split.{shares, whole};
-ghost use Rattle.ledgers.specs.Book.{book, holding};
+ghost use Rattle.ledgers.specs.Book.{SameSlice, book, holding};
 ghost use Rattle.ledgers.specs.Limits.{most_records};
 ghost use Rattle.refusals.specs.Answers.{Answered};
 ghost use Rattle.areas.specs.Areas.{AreaRefused, MembersWeighed, SharesWeighed, loads, shares_by, units};
@@ -41,6 +41,7 @@ pub fn post_area(
         × (book ledger.new ≡ holding (book ledger.old) ((book ledger.old).items
         ++ loads participant members.now (shares (pos tenths) (shares_by members.now)))))
         (λ _. book ledger.new ≡ book ledger.old) }
+    ensures slice { SameSlice ledger.old ledger.new }
 {
     if members.len() > MAX_RECORDS {
         return Err(Cause::LedgerFull);
@@ -87,9 +88,10 @@ impl<'a> AreaLoad<'a> {
     fn post(&self, ledger: &mut Ledger<BusPosition>)
         requires { length (book ledger.old).items + length self.now.members.now
             ≤ (book ledger.old).capacity }
-        ensures { book ledger.new ≡ holding (book ledger.old) ((book ledger.old).items
+        ensures posted { book ledger.new ≡ holding (book ledger.old) ((book ledger.old).items
             ++ loads self.now.participant self.now.members.now
             (shares (pos self.now.tenths) (shares_by self.now.members.now))) }
+        ensures slice { SameSlice ledger.old ledger.new }
     {
         // An hour uses no heap, so the parts are on the stack, in a row for the longest area.
         let mut row = [Megawatts(0); MAX_RECORDS];
@@ -110,8 +112,9 @@ impl<'a> AreaLoad<'a> {
     fn post_parts(&self, ledger: &mut Ledger<BusPosition>, row: &[Megawatts])
         requires { length (book ledger.old).items + length self.now.members.now
             ≤ (book ledger.old).capacity }
-        ensures { book ledger.new ≡ holding (book ledger.old) ((book ledger.old).items
+        ensures posted { book ledger.new ≡ holding (book ledger.old) ((book ledger.old).items
             ++ loads self.now.participant self.now.members.now (units row.now)) }
+        ensures slice { SameSlice ledger.old ledger.new }
     {
         for (member, megawatts) in self.members.iter().zip(row) {
             ledger

@@ -21,6 +21,10 @@ book l = front_book l.records.now l.len l.mark
 abbrev pub closed_book : {P : Type 0} → ClosedLedger P → Book P
 closed_book l = front_book l.records.now l.len l.mark
 
+-- both hold the same lent slice, at the same place in memory
+abbrev pub SameSlice : {P : Type 0} → Ledger P → Ledger P → Type 0
+SameSlice old new = (new.records.ghost_name ≡ old.records.ghost_name) × (new.records.ref_ptr ≡ old.records.ref_ptr)
+
 abbrev pub empty : (P : Type 0) → ℕ → Book P
 empty P n = record { capacity = n; mark = 0; items = [] }
 

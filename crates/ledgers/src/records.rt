@@ -32,6 +32,7 @@ impl<'a, P: Position> Ledger<'a, P> {
     pub fn new(records: &'a mut [P]) -> Ledger<'a, P>
         ensures book { book result ≡ empty P (length records.old) }
         ensures slice { result.records.ghost_name ≡ records.entry.ghost_name }
+        ensures place { result.records.ref_ptr ≡ records.entry.ref_ptr }
     {
         Ledger {
             records,
@@ -58,6 +59,7 @@ impl<'a, P: Position> Ledger<'a, P> {
     pub fn post(&mut self, record: P) -> Result<usize, Cause>
         ensures posted { Appended (book self.old) «record» result (book self.new) }
         ensures slice { self.new.records.ghost_name ≡ self.old.records.ghost_name }
+        ensures place { self.new.records.ref_ptr ≡ self.old.records.ref_ptr }
     {
         if self.len == self.records.len() {
             return Err(Cause::LedgerFull);
@@ -72,6 +74,7 @@ impl<'a, P: Position> Ledger<'a, P> {
     pub fn amend(&mut self, number: usize, tenths: u32) -> Result<(), Cause>
         ensures amended { Amended P.Position.amended (book self.old) number tenths result (book self.new) }
         ensures slice { self.new.records.ghost_name ≡ self.old.records.ghost_name }
+        ensures place { self.new.records.ref_ptr ≡ self.old.records.ref_ptr }
     {
         if !self.is_open(number) {
             return Err(Cause::RecordNotOpen);
@@ -108,6 +111,7 @@ impl<'a, P: Position> Ledger<'a, P> {
     pub fn close_phase(mut self) -> Ledger<'a, P>
         ensures book { book result ≡ closed (book self.entry) }
         ensures slice { result.records.ghost_name ≡ self.entry.records.ghost_name }
+        ensures place { result.records.ref_ptr ≡ self.entry.records.ref_ptr }
     {
         self.mark = self.len;
         self
@@ -115,7 +119,8 @@ impl<'a, P: Position> Ledger<'a, P> {
 
     // The records for as long as the caller lent them, with nobody left to change them.
     pub fn finish(self) -> ClosedLedger<'a, P>
-        ensures { closed_book result ≡ book self.entry }
+        ensures book { closed_book result ≡ book self.entry }
+        ensures place { result.records.ref_ptr ≡ self.entry.records.ref_ptr }
     {
         let Ledger { records, len, mark } = self;
         ClosedLedger { records, len, mark }

@@ -1,5 +1,5 @@
 use Rattle.std.proofs.Common.{◌≡◌, ◌+◌, ◌≤◌, ◌++◌, length}
-use Rattle.ledgers.specs.Book.{book, holding}
+use Rattle.ledgers.specs.Book.{SameSlice, book, holding}
 use Rattle.areas.specs.Areas.{loads, units}
 use Rattle.areas.proofs.AreaLoad.post_parts.Given as goal
 
@@ -13,5 +13,6 @@ invariant-loop-member l =
     let parts = l.member-iterator.b.rest.now in
     record {
       room : length b.items + length left ≤ b.capacity;
+      slice : SameSlice l.initial.ledger l.ledger;
       all : holding b (b.items ++ loads who left (units parts)) ≡ holding e (e.items ++ loads who l.self.members.now (units l.row));
     }
