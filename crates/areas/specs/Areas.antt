@@ -6,6 +6,7 @@ use Rattle.quantities.specs.declared.kinds.Megawatts.{Megawatts}
 use Rattle.apportion.specs.Split.{whole}
 use Rattle.apportion.specs.declared.items.AreaMember.{AreaMember}
 use Rattle.ledgers.specs.Book.{Book}
+use Rattle.ledgers.specs.Limits.{most_records}
 use Rattle.positions.specs.declared.bus_positions.BusPosition.{BusPosition}
 use Rattle.positions.specs.declared.classes.Class.TheVariants.{Load}
 
@@ -36,12 +37,12 @@ abbrev pub MembersWeighed : ℕ → List AreaMember → Result (Unit {0}) Cause 
 MembersWeighed n ms (Ok _) = MembersPlaced n ms
 MembersWeighed n ms (Err c) = (c ≡ BusOutOfRange) × ((i : ℕ) × (i < length ms) × (n ≤ (slice_index_or ms i nowhere).bus))
 
-abbrev pub SharesWeighed : List AreaMember → Result (Unit {0}) Cause → Type 0
+abbrev pub SharesWeighed : {A : Type 0} → List AreaMember → Result A Cause → Type 0
 SharesWeighed ms (Ok _) = whole (shares_by ms) ≡ 10000
 SharesWeighed ms (Err c) = (c ≡ AreaNotWhole) × (whole (shares_by ms) ≢ 10000)
 
 -- no more members are taken than an hour's ledger can have records
 pub data AreaRefused (b : Book BusPosition) (ms : List AreaMember) : Cause → Type 0 where
-  many_members : 4096 < length ms → AreaRefused b ms LedgerFull
+  many_members : most_records < length ms → AreaRefused b ms LedgerFull
   no_room : b.capacity < length b.items + length ms → AreaRefused b ms LedgerFull
   not_whole : whole (shares_by ms) ≢ 10000 → AreaRefused b ms AreaNotWhole

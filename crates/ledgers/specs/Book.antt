@@ -21,6 +21,10 @@ book l = front_book l.records.now l.len l.mark
 abbrev pub closed_book : {P : Type 0} → ClosedLedger P → Book P
 closed_book l = front_book l.records.now l.len l.mark
 
+-- both hold the same lent slice, at the same place in memory
+abbrev pub SameSlice : {P : Type 0} → Ledger P → Ledger P → Type 0
+SameSlice old new = (new.records.ghost_name ≡ old.records.ghost_name) × (new.records.ref_ptr ≡ old.records.ref_ptr)
+
 abbrev pub empty : (P : Type 0) → ℕ → Book P
 empty P n = record { capacity = n; mark = 0; items = [] }
 
@@ -30,6 +34,10 @@ closed b = record { capacity = b.capacity; mark = length b.items; items = b.item
 -- the same book with other records
 abbrev pub holding : {P : Type 0} → Book P → List P → Book P
 holding b xs = record { capacity = b.capacity; mark = b.mark; items = xs }
+
+-- the record of a number is one of the open phase
+abbrev pub IsOpen : {P : Type 0} → Book P → ℕ → Type 0
+IsOpen b i = (b.mark ≤ i) × (i < length b.items)
 
 -- a record is added at the end and answered by its number, where there is room
 abbrev pub Appended : {P : Type 0} → Book P → P → Result ℕ Cause → Book P → Type 0

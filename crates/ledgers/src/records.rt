@@ -1,16 +1,18 @@
 // The ledger: records of one kind of position in a slice that the caller lends.
-ghost use Rattle.std.specs.Prelude.{◌≡◌, ◌-◌, length, take, drop};
-ghost use Rattle.ledgers.specs.Book.{Amended, OpenAt, Appended, book, closed, closed_book, empty};
+ghost use Rattle.std.specs.Prelude.{◌≡◌, ◌-◌, ◌≤◌, ◌↔◌, IsTrue, length, take, drop};
 
 use positions::Position;
 use refusals::Cause;
 
 // The records that stand are the first `len` of the slice. Those before `mark` are of a closed phase.
+// The caller lends the memory, so a count beside the slice stands in for a Vec.
 #[derive(Drop)]
 pub struct Ledger<'a, P> {
     records: &'a mut [P],
     len: usize,
     mark: usize,
+    ghost fits: { len ≤ length records.now },
+    ghost marked: { mark ≤ len },
 }
 
 // A ledger that no call changes any more. What stands before `mark` is of the day-ahead phase.
@@ -19,13 +21,18 @@ pub struct ClosedLedger<'a, P> {
     records: &'a [P],
     len: usize,
     mark: usize,
+    ghost fits: { len ≤ length records.now },
+    ghost marked: { mark ≤ len },
 }
 
 impl<'a, P: Position> Ledger<'a, P> {
+    ghost use Rattle.ledgers.specs.Book.{Amended, OpenAt, Appended, IsOpen, book, closed, closed_book, empty};
+
     // An empty ledger, with room for as many records as the slice has.
     pub fn new(records: &'a mut [P]) -> Ledger<'a, P>
         ensures book { book result ≡ empty P (length records.old) }
         ensures slice { result.records.ghost_name ≡ records.entry.ghost_name }
+        ensures place { result.records.ref_ptr ≡ records.entry.ref_ptr }
     {
         Ledger {
             records,
@@ -45,88 +52,90 @@ impl<'a, P: Position> Ledger<'a, P> {
     pub fn room(&self) -> usize
         ensures { result ≡ (book self.now).capacity - length (book self.now).items }
     {
-        self.records.len().saturating_sub(self.len)
+        self.records.len() - self.len
     }
 
     // Adds a record, and answers its number.
     pub fn post(&mut self, record: P) -> Result<usize, Cause>
         ensures posted { Appended (book self.old) «record» result (book self.new) }
         ensures slice { self.new.records.ghost_name ≡ self.old.records.ghost_name }
+        ensures place { self.new.records.ref_ptr ≡ self.old.records.ref_ptr }
     {
-        if self.len < self.records.len() {
-            let number = self.len;
-            self.records[number] = record;
-            self.len = number + 1;
-            Ok(number)
-        } else {
-            Err(Cause::LedgerFull)
+        if self.len == self.records.len() {
+            return Err(Cause::LedgerFull);
         }
+        let number = self.len;
+        self.records[number] = record;
+        self.len += 1;
+        Ok(number)
     }
 
     // Replaces the M of one record of the open phase.
     pub fn amend(&mut self, number: usize, tenths: u32) -> Result<(), Cause>
         ensures amended { Amended P.Position.amended (book self.old) number tenths result (book self.new) }
         ensures slice { self.new.records.ghost_name ≡ self.old.records.ghost_name }
+        ensures place { self.new.records.ref_ptr ≡ self.old.records.ref_ptr }
     {
-        if self.mark <= number && number < self.len && number < self.records.len() {
-            let record = self.records[number];
-            self.records[number] = record.with_tenths(tenths);
-            Ok(())
-        } else {
-            Err(Cause::RecordNotOpen)
+        if !self.is_open(number) {
+            return Err(Cause::RecordNotOpen);
         }
+        // Reborrowed first: an element is not yet lent through a struct that has a ghost field.
+        let records = &mut *self.records;
+        let record = &mut records[number];
+        *record = record.with_tenths(tenths);
+        Ok(())
     }
 
     // All records, in the order in which they were posted.
     fn standing(&self) -> &[P]
         ensures { result.now ≡ (book self.now).items }
     {
-        front(self.records, self.len)
+        &self.records[..self.len]
+    }
+
+    // Whether the record of that number is one of the open phase.
+    fn is_open(&self, number: usize) -> bool
+        ensures { IsTrue result ↔ IsOpen (book self.now) number }
+    {
+        (self.mark..self.len).contains(&number)
     }
 
     // The record of that number, if it is one of the open phase.
     pub fn open_at(&self, number: usize) -> Option<P>
         ensures { OpenAt (book self.now) number result }
     {
-        let standing = self.standing();
-        if self.mark <= number && number < standing.len() {
-            Some(standing[number])
-        } else {
-            None
-        }
+        self.is_open(number).then(|| self.records[number])
     }
 
     // All that stands is now of a closed phase.
-    pub fn close_phase(self) -> Ledger<'a, P>
+    pub fn close_phase(mut self) -> Ledger<'a, P>
         ensures book { book result ≡ closed (book self.entry) }
         ensures slice { result.records.ghost_name ≡ self.entry.records.ghost_name }
+        ensures place { result.records.ref_ptr ≡ self.entry.records.ref_ptr }
     {
-        let mark = self.count();
-        let Ledger {
-            records,
-            len,
-            mark: _,
-        } = self;
-        Ledger { records, len, mark }
+        self.mark = self.len;
+        self
     }
 
     // The records for as long as the caller lent them, with nobody left to change them.
     pub fn finish(self) -> ClosedLedger<'a, P>
-        ensures { closed_book result ≡ book self.entry }
+        ensures book { closed_book result ≡ book self.entry }
+        ensures place { result.records.ref_ptr ≡ self.entry.records.ref_ptr }
     {
         let Ledger { records, len, mark } = self;
-        let records: &'a [P] = records;
         ClosedLedger { records, len, mark }
     }
 }
 
 impl<'a, P: Position> ClosedLedger<'a, P> {
+    ghost use Rattle.ledgers.specs.Book.{closed_book};
+
     // All records, in the order in which they were posted.
     pub fn standing(&self) -> &'a [P]
         ensures records { result.now ≡ (closed_book self.now).items }
         ensures place { result.ref_ptr ≡ self.now.records.ref_ptr }
     {
-        front(self.records, self.len)
+        &self.records[..self.len]
     }
 
     // The records of the day-ahead phase: the front part of the slice itself.
@@ -134,30 +143,13 @@ impl<'a, P: Position> ClosedLedger<'a, P> {
         ensures records { result.now ≡ take (closed_book self.now).mark (closed_book self.now).items }
         ensures place { result.ref_ptr ≡ self.now.records.ref_ptr }
     {
-        front(self.standing(), self.mark)
+        &self.standing()[..self.mark]
     }
 
     // The records of real time: what is behind the day-ahead part.
     pub fn real_time(&self) -> &'a [P]
         ensures { result.now ≡ drop (closed_book self.now).mark (closed_book self.now).items }
     {
-        let standing = self.standing();
-        if self.mark < standing.len() {
-            &standing[self.mark..]
-        } else {
-            &standing[standing.len()..]
-        }
-    }
-}
-
-// The first `count` of the records, or all where there are fewer.
-fn front<P>(records: &[P], count: usize) -> &[P]
-    ensures records { result.now ≡ take count records.now }
-    ensures place { result.ref_ptr ≡ records.entry.ref_ptr }
-{
-    if count < records.len() {
-        &records[0..count]
-    } else {
-        records
+        &self.standing()[self.mark..]
     }
 }

@@ -1,21 +1,17 @@
-use Rattle.std.proofs.Common.{refl, arith}
-use Rattle.ledgers.proofs.Steps.{amends, above, below}
+use Rattle.std.proofs.Common.{◌≡◌, ℕ, ◌<◌, ◌≤◌, List, length, get_or, take, set, Ok, refl, arith}
+use Rattle.std.proofs.Math.Seq.{take-set-lt}
+use Rattle.std.proofs.lemmas.List.{length-set, length-take-le, get_or-take, get_or_default}
+use Rattle.ledgers.specs.Book.{Amended, front_book}
 use Rattle.ledgers.proofs.records.Ledger.amend.Goals as goal
 
-pub returns-then-number-self-2 : goal.returns-then-number-self-2
-returns-then-number-self-2 g c =
-    let l = c.args.self.now in
-    let high = c.if-number-self.true in
-    let inside = c.if-number-self-2.true in
-    record {
-      amended = amends g.P.Position.amended l.records.now l.len l.mark c.args.number c.args.tenths c.index-self-number.result _ c.if-self-number.true (above l.len c.args.number l.records.now high inside) high inside c.with_tenths.ensures;
-      slice = refl;
-    }
+-- an amendment of what stands, in the list that the lent slice holds
+amends : {P : Type 0} (f : P → ℕ → P) (xs : List P) (n m i mw : ℕ) (x y : P) → n ≤ length xs → m ≤ i → i < length (take n xs) → y ≡ f (get_or xs i x) mw → Amended f (front_book xs n m) i mw (Ok tt) (front_book (set xs i y) n m)
+amends f xs n m i mw x y fits low stands is =
+    let len = length-take-le n xs fits in
+    (low, stands, λ d. grind (arith, take-set-lt n xs i y, get_or-take n xs i d, get_or_default xs i x d, length-set xs i y))
 
-pub returns-else-self-number : goal.returns-else-self-number
-returns-else-self-number g c =
+pub returns-clause-amended : goal.returns-clause-amended
+returns-clause-amended g c =
     let l = c.args.self.now in
-    record {
-      amended = (refl, (λ low stands. let h = below l.len c.args.number l.records.now stands in elim c.else-self-number.branch [ goal.else-self-number-via-then-self-number+then-number-self+else-number-self-2 w ↦ omega arith | goal.else-self-number-via-then-self-number+else-number-self w ↦ omega arith | goal.else-self-number-via-else-self-number w ↦ omega arith ]), refl);
-      slice = refl;
-    }
+    let stands = c.if-not-is_open.ensures.0 refl in
+    amends g.P.Position.amended l.records.now l.len l.mark c.args.number c.args.tenths _ _ l.fits stands.0 stands.1 c.with_tenths.ensures
