@@ -11,7 +11,8 @@ use Rattle.refusals.specs.Causes.{number}
 use Rattle.quantities.specs.Sums.{atℕ}
 use Rattle.networks.specs.declared.radial.constraint.RadialConstraint.{RadialConstraint}
 use Rattle.networks.specs.Descent.{upper, Falling, Under}
-use Rattle.networks.specs.Limits.{most_buses, most_constraints, most_price}
+use Rattle.quantities.specs.Limits.{most_buses}
+use Rattle.networks.specs.Limits.{most_constraints, most_price}
 use Rattle.networks.specs.Radials.{constraint_at, constraint_bus, constraint_price, reaches, radial_meaning, RadialTells, RadialRefused, buses_over, upper_not_smaller, constraints_over, at_root, bus_beyond, price_over, ConstraintWithin, ConstraintsWithin, RadialWithin}
 use Rattle.networks.specs.Below.{and_then, some_or_each}
 use Rattle.networks.specs.DescentLaws.{upper_smaller, reaches_under}

@@ -5,7 +5,8 @@ use Rattle.refusals.specs.declared.Cause.TheVariants.{OutsideLimits}
 use Rattle.quantities.specs.Sums.{atℕ}
 use Rattle.networks.specs.declared.radial.constraint.RadialConstraint.{RadialConstraint}
 use Rattle.networks.specs.Descent.{upper, Falling, Under}
-use Rattle.networks.specs.Limits.{most_buses, most_constraints, most_price}
+use Rattle.quantities.specs.Limits.{most_buses}
+use Rattle.networks.specs.Limits.{most_constraints, most_price}
 use Rattle.networks.specs.Meaning.{Meaning}
 
 -- the constraint at a place of a list, with its bus and its price; nought past the end

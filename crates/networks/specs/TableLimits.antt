@@ -10,7 +10,8 @@ use Rattle.refusals.specs.Answers.{Clear}
 use Rattle.refusals.specs.Causes.{number}
 use Rattle.quantities.specs.declared.kinds.Factor.{Factor}
 use Rattle.quantities.specs.declared.kinds.ShadowPrice.{ShadowPrice}
-use Rattle.networks.specs.Limits.{most_buses, most_constraints, most_price, most_factor, most_spread}
+use Rattle.quantities.specs.Limits.{most_buses}
+use Rattle.networks.specs.Limits.{most_constraints, most_price, most_factor, most_spread}
 use Rattle.networks.specs.Meaning.{SpreadMost}
 use Rattle.networks.specs.Tables.{price_at, factor_at, table_meaning, TableRefused, no_bus, buses_over, constraints_over, price_over, other_length, factor_over, spread_over, factor_row, PricesWithin, FactorsWithin, RowsClose, TableWithin}
 use Rattle.networks.specs.Below.{and_then, some_or_each, over_or_within}

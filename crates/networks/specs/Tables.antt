@@ -4,7 +4,8 @@ use Rattle.refusals.specs.declared.Cause.{Cause}
 use Rattle.refusals.specs.declared.Cause.TheVariants.{OutsideLimits}
 use Rattle.quantities.specs.declared.kinds.Factor.{Factor}
 use Rattle.quantities.specs.declared.kinds.ShadowPrice.{ShadowPrice}
-use Rattle.networks.specs.Limits.{most_buses, most_constraints, most_price, most_factor, most_spread}
+use Rattle.quantities.specs.Limits.{most_buses}
+use Rattle.networks.specs.Limits.{most_constraints, most_price, most_factor, most_spread}
 use Rattle.networks.specs.Meaning.{Meaning}
 
 -- the price at a place of a list, and the factor; nought past the end

@@ -1,7 +1,8 @@
 // A network that is a tree: each bus but the root hangs from an upper bus of smaller number.
 ghost use Rattle.std.specs.Prelude.{◌+◌, ◌<◌, ◌≤◌, length};
 ghost use Rattle.networks.specs.Descent.{Falling};
-ghost use Rattle.networks.specs.Limits.{most_buses, most_constraints};
+ghost use Rattle.quantities.specs.Limits.{most_buses};
+ghost use Rattle.networks.specs.Limits.{most_constraints};
 ghost use Rattle.networks.specs.Radials.{radial_meaning, ConstraintsWithin};
 ghost use Rattle.networks.specs.RadialLimits.{price_most, price_past};
 ghost use Rattle.std.proofs.Common.{rules};

@@ -1,6 +1,7 @@
 // A network that is given as a table of shadow prices and factors.
 ghost use Rattle.std.specs.Prelude.{◌≡◌, ◌*◌, ◌≤◌, length};
-ghost use Rattle.networks.specs.Limits.{most_buses, most_constraints};
+ghost use Rattle.quantities.specs.Limits.{most_buses};
+ghost use Rattle.networks.specs.Limits.{most_constraints};
 ghost use Rattle.networks.specs.Meaning.{SpreadMost};
 ghost use Rattle.networks.specs.Tables.{table_meaning, PricesWithin, FactorsWithin};
 ghost use Rattle.networks.specs.TableLimits.{price_most, factor_most, price_past};

@@ -5,9 +5,10 @@ ghost use Rattle.networks.specs.Descent.{Falling};
 ghost use Rattle.networks.specs.Radials.{RadialTells, RadialRefused, RadialWithin, ConstraintsWithin, ConstraintWithin};
 ghost use Rattle.networks.specs.contracts.radial.RadialNetwork.TheImpl.{ghosts as as_network};
 
-use crate::network::{MAX_BUSES, MAX_CONSTRAINTS, MAX_SHADOW_PRICE};
+use crate::network::{MAX_CONSTRAINTS, MAX_SHADOW_PRICE};
 use crate::radial::Radial;
 use crate::radial::constraint::RadialConstraint;
+use quantities::MAX_BUSES;
 use refusals::Cause;
 
 impl Radial {

@@ -1,13 +1,14 @@
 // Making a table: it is weighed against the limits first, and then made.
 ghost use Rattle.std.specs.Prelude.{◌≡◌, ◌*◌, ◌≤◌, length, Decides};
 ghost use Rattle.refusals.specs.Answers.{Answered, Clear};
-ghost use Rattle.networks.specs.Limits.{most_buses, most_constraints};
+ghost use Rattle.quantities.specs.Limits.{most_buses};
+ghost use Rattle.networks.specs.Limits.{most_constraints};
 ghost use Rattle.networks.specs.Tables.{table_meaning, TableRefused, TableWithin, PricesWithin, FactorsWithin, RowsClose, Close, CloseTo};
 ghost use Rattle.networks.specs.contracts.table.TableNetwork.TheImpl.{ghosts as as_network};
 
-use crate::network::{MAX_BUSES, MAX_CONSTRAINTS, MAX_FACTOR, MAX_SHADOW_PRICE, MAX_SPREAD};
+use crate::network::{MAX_CONSTRAINTS, MAX_FACTOR, MAX_SHADOW_PRICE, MAX_SPREAD};
 use crate::table::Table;
-use quantities::{Factor, ShadowPrice};
+use quantities::{Factor, MAX_BUSES, ShadowPrice};
 use refusals::Cause;
 
 impl Table {
