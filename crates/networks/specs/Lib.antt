@@ -5,5 +5,6 @@ pub mod Descent
 pub mod Radials
 pub mod RadialLimits
 pub mod Below
+pub mod Refused
 pub mod DescentLaws
 pub mod TableLimits

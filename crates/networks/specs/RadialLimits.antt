@@ -1,12 +1,13 @@
 -- A radial network is refused where it is outside the limits; what it means, by the relation of descent; and its limits. Assumes nothing.
 use Rattle.std.specs.Prelude.{◌≡◌, ℕ, ◌+◌, ◌<◌, ◌≤◌, ◌⊎◌, List, length, get_or, ℤ, pos, negsuc, Decides, nat_lt, slice_index_or, unsigned_abs, refl}
-use Rattle.std.proofs.Common.{inl, inr, ⊎_elim, ap, ◌∙◌, arith, lit≤}
+use Rattle.std.proofs.Common.{Bool, IsTrue, ◌↔◌, if◌then◌else◌, inl, inr, ⊎_elim, ap, ◌∙◌, arith, rules}
 use Rattle.std.proofs.lemmas.Int.{ints}
 use Rattle.std.proofs.lemmas.List.{get_or_past, get_or_read}
+use Rattle.std.proofs.lemmas.Bool.Decides.{same_from_decides}
 use Rattle.std.proofs.lemmas.Bool.{cases_lt, cases_Bool, lt-ltb, le-ltb, and_right, cond-false}
 use Rattle.refusals.specs.declared.Cause.{Cause}
 use Rattle.refusals.specs.declared.Cause.TheVariants.{OutsideLimits}
-use Rattle.refusals.specs.Answers.{Clear}
+use Rattle.refusals.specs.Answers.{First, Clear}
 use Rattle.refusals.specs.Causes.{number}
 use Rattle.quantities.specs.Sums.{atℕ}
 use Rattle.networks.specs.declared.radial.constraint.RadialConstraint.{RadialConstraint}
@@ -15,6 +16,7 @@ use Rattle.quantities.specs.Limits.{most_buses}
 use Rattle.networks.specs.Limits.{most_constraints, most_price}
 use Rattle.networks.specs.Radials.{constraint_at, constraint_bus, constraint_price, reaches, radial_meaning, RadialTells, RadialRefused, buses_over, upper_not_smaller, constraints_over, at_root, bus_beyond, price_over, ConstraintWithin, ConstraintsWithin, RadialWithin}
 use Rattle.networks.specs.Below.{and_then, some_or_each}
+use Rattle.networks.specs.Refused.{clear_within, outside_refused}
 use Rattle.networks.specs.DescentLaws.{upper_smaller, reaches_under}
 
 -- ---- refused or within
@@ -36,7 +38,7 @@ module _ (us : List ℕ) (cs : List RadialConstraint) where
   outside_refused_at j h (inr (inl l)) = bus_beyond j h l
   outside_refused_at j h (inr (inr l)) = price_over j h l
 
-  pub decided : RadialRefused us cs OutsideLimits ⊎ RadialWithin us cs
+  decided : RadialRefused us cs OutsideLimits ⊎ RadialWithin us cs
   decided =
       and_then (⊎_elim (λ l. inl (buses_over l)) inr (cases_lt most_buses (length us + 1))) (λ b.
       and_then (⊎_elim (λ s. inl (upper_not_smaller s.0 s.1 (omega (arith, s.2)))) inr (some_or_each (λ k. k < atℕ us k) (λ k. atℕ us k ≤ k) (λ k. cases_lt k (atℕ us k)) (length us))) (λ f.
@@ -44,30 +46,22 @@ module _ (us : List ℕ) (cs : List RadialConstraint) where
       and_then (⊎_elim (λ s. inl (outside_refused_at s.0 s.1 s.2)) inr (some_or_each Outside (λ j. ConstraintWithin (length us + 1) (constraint_at cs j)) outside_or_within (length cs))) (λ e.
       inr (record { buses = b; falling = f; constraints = c; each = e })))))
 
-  -- what is within the limits is not refused
-  pub within_clear : RadialWithin us cs → Clear (RadialRefused us cs)
-  within_clear w c (buses_over l) = omega (arith, w.buses)
-  within_clear w c (upper_not_smaller i h l) = omega (arith, w.falling i h)
-  within_clear w c (constraints_over l) = omega (arith, w.constraints)
-  within_clear w c (at_root j h e) = omega (arith, (w.each j h).0)
-  within_clear w c (bus_beyond j h l) = omega (arith, (w.each j h).1)
-  within_clear w c (price_over j h l) = omega (arith, (w.each j h).2)
-
   -- there is one cause
-  pub least : (d : Cause) → RadialRefused us cs d → 13 ≤ number d
-  least d (buses_over l) = lit≤ tt
-  least d (upper_not_smaller i h l) = lit≤ tt
-  least d (constraints_over l) = lit≤ tt
-  least d (at_root j h e) = lit≤ tt
-  least d (bus_beyond j h l) = lit≤ tt
-  least d (price_over j h l) = lit≤ tt
+  least : (d : Cause) → RadialRefused us cs d → 13 ≤ number d
+  least d r = search rules
+
+  pub refused : ¬ RadialWithin us cs → First (RadialRefused us cs) OutsideLimits
+  refused = outside_refused _ _ decided least
+
+  pub within : Clear (RadialRefused us cs) → RadialWithin us cs
+  within = clear_within _ _ decided
 
 -- ---- the limits of a network
 
 pub price_past : (cs : List RadialConstraint) (j : ℕ) → length cs ≤ j → constraint_price cs j ≡ pos 0
 price_past cs j h = ap (λ (c : RadialConstraint). c.price.0) (get_or_past cs j (record { bus = 0; price = record { 0 = pos 0 } }) h)
 
-pub price_most : (n : ℕ) (cs : List RadialConstraint) → ConstraintsWithin n cs (length cs) → (j : ℕ) → unsigned_abs (constraint_price cs j) ≤ most_price
+pub price_most : (n : ℕ) (cs : List RadialConstraint) → ConstraintsWithin n cs → (j : ℕ) → unsigned_abs (constraint_price cs j) ≤ most_price
 price_most n cs within j = ⊎_elim (λ l. (within j l).2) (λ g. let e = price_past cs j g in omega (arith, ints)) (cases_lt j (length cs))
 
 -- ---- what it means
@@ -78,6 +72,11 @@ module _ (us : List ℕ) (cs : List RadialConstraint) (falling : Falling us) whe
 
   followed : (j i : ℕ) → Decides (reaches (upper us) (constraint_bus cs j) i i) (Under (upper us) (constraint_bus cs j) i)
   followed j i = reaches_under (upper us) (upper_smaller us falling) (constraint_bus cs j) i i (omega arith)
+
+  -- by any test of descent from the bus of the constraint
+  pub told_reached : (j i : ℕ) (vs : List ℕ) (b : ℕ) (r : Bool) → j < length cs → i < length us + 1 → vs ≡ us → b ≡ constraint_bus cs j → IsTrue r ↔ Under (upper vs) b i → told j i ≡ (if r then negsuc 999 else pos 0)
+  told_reached j i vs b r h l e f under =
+      rw (lt-ltb j (length cs) h, lt-ltb i (length us + 1) l, same_from_decides _ r (followed j i) (rw (e, f) at under)) refl
 
   pub told_under : (j i : ℕ) → j < length cs → i < length us + 1 → Under (upper us) (constraint_bus cs j) i → told j i ≡ negsuc 999
   told_under j i h l p = rw (lt-ltb j (length cs) h, lt-ltb i (length us + 1) l, (followed j i).1 p) refl

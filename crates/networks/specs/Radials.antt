@@ -1,5 +1,5 @@
 -- What a radial network means, and where it is refused. Assumes nothing.
-use Rattle.std.specs.Prelude.{◌≡◌, ℕ, zero, suc, ◌+◌, ◌<◌, ◌≤◌, Bool, cond, ◌&&◌, List, length, ℤ, pos, negsuc, ◌==◌, nat_lt, slice_index_or, unsigned_abs}
+use Rattle.std.specs.Prelude.{◌≡◌, ℕ, zero, suc, ◌+◌, ◌<◌, ◌≤◌, Bool, cond, ◌&&◌, List, length, ℤ, pos, negsuc, ◌==◌, nat_lt, slice_index_or, EachIndex, unsigned_abs}
 use Rattle.refusals.specs.declared.Cause.{Cause}
 use Rattle.refusals.specs.declared.Cause.TheVariants.{OutsideLimits}
 use Rattle.quantities.specs.Sums.{atℕ}
@@ -61,12 +61,12 @@ pub data RadialRefused (us : List ℕ) (cs : List RadialConstraint) : Cause → 
 abbrev pub ConstraintWithin : ℕ → RadialConstraint → Type 0
 ConstraintWithin n c = (1 ≤ c.bus) × (c.bus < n) × (unsigned_abs c.price.0 ≤ most_price)
 
--- each of the first m
-abbrev pub ConstraintsWithin : ℕ → List RadialConstraint → ℕ → Type 0
-ConstraintsWithin n cs m = (j : ℕ) → j < m → ConstraintWithin n (constraint_at cs j)
+-- each constraint
+abbrev pub ConstraintsWithin : ℕ → List RadialConstraint → Type 0
+ConstraintsWithin n cs = EachIndex cs (λ j. ConstraintWithin n (constraint_at cs j))
 
 pub record RadialWithin (us : List ℕ) (cs : List RadialConstraint) : Type 0 where
   pub buses : length us + 1 ≤ most_buses
   pub falling : Falling us
   pub constraints : length cs ≤ most_constraints
-  pub each : ConstraintsWithin (length us + 1) cs (length cs)
+  pub each : ConstraintsWithin (length us + 1) cs

@@ -24,7 +24,7 @@ pub struct Radial {
     ghost buses_most: { length uppers.items + 1 ≤ most_buses },
     ghost falling: { Falling uppers.items },
     ghost constraints_most: { length constraints.items ≤ most_constraints },
-    ghost constraints_within: { ConstraintsWithin (length uppers.items + 1) constraints.items (length constraints.items) },
+    ghost constraints_within: { ConstraintsWithin (length uppers.items + 1) constraints.items },
 }
 
 // The factor of a constraint at its bus and at each descendant: all that is withdrawn there comes over the line.
@@ -60,25 +60,17 @@ impl Network for Radial {
     }
 
     fn shadow_price(&self, constraint: u8) -> ShadowPrice {
-        if usize::from(constraint) < self.constraints.len() {
-            self.constraints[usize::from(constraint)].price
-        } else {
-            ShadowPrice(0)
-        }
+        self.constraints
+            .get(usize::from(constraint))
+            .map_or(ShadowPrice(0), |line| line.price)
     }
 
     fn factor(&self, constraint: u8, bus: u16) -> Factor {
-        if usize::from(constraint) < self.constraints.len()
-            && bus < self.buses()
-            && is_under(
-                self.uppers.as_slice(),
-                self.constraints[usize::from(constraint)].bus,
-                bus,
-            )
-        {
-            FACTOR_UNDER
-        } else {
-            Factor(0)
+        match self.constraints.get(usize::from(constraint)) {
+            Some(line) if bus < self.buses() && is_under(&self.uppers, line.bus, bus) => {
+                FACTOR_UNDER
+            }
+            _ => Factor(0),
         }
     }
 }

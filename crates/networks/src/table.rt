@@ -57,18 +57,19 @@ impl Network for Table {
     }
 
     fn shadow_price(&self, constraint: u8) -> ShadowPrice {
-        if usize::from(constraint) < self.prices.len() {
-            self.prices[usize::from(constraint)]
-        } else {
-            ShadowPrice(0)
-        }
+        self.prices
+            .get(usize::from(constraint))
+            .copied()
+            .unwrap_or(ShadowPrice(0))
     }
 
     fn factor(&self, constraint: u8, bus: u16) -> Factor {
-        if usize::from(constraint) < self.prices.len() && bus < self.buses {
-            self.factors[usize::from(constraint) * usize::from(self.buses) + usize::from(bus)]
-        } else {
-            Factor(0)
-        }
+        self.factors
+            .chunks_exact(usize::from(self.buses))
+            .nth(usize::from(constraint))
+            .unwrap_or(&[])
+            .get(usize::from(bus))
+            .copied()
+            .unwrap_or(Factor(0))
     }
 }

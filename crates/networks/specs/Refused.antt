@@ -1,5 +1,6 @@
 -- What is refused by 13 alone. Assumes nothing.
-use Rattle.std.proofs.Common.{◌≤◌, ◌⊎◌, ⊎_elim}
+use Rattle.std.specs.Prelude.{◌≤◌, ◌⊎◌}
+use Rattle.std.proofs.Common.{⊎_elim}
 use Rattle.refusals.specs.declared.Cause.{Cause}
 use Rattle.refusals.specs.declared.Cause.TheVariants.{OutsideLimits}
 use Rattle.refusals.specs.Answers.{First, Clear}
