@@ -1,5 +1,5 @@
 -- A radial network is refused where it is outside the limits; what it means, by the relation of descent; and its limits. Assumes nothing.
-use Rattle.std.specs.Prelude.{◌≡◌, ℕ, ◌+◌, ◌<◌, ◌≤◌, ◌⊎◌, List, length, get_or, ℤ, pos, negsuc, Decides, nat_lt, slice_index_or, unsigned_abs, refl}
+use Rattle.std.specs.Prelude.{◌≡◌, ℕ, suc, ◌+◌, ◌<◌, ◌≤◌, ◌⊎◌, List, length, get_or, ℤ, pos, negsuc, Decides, nat_lt, slice_index_or, unsigned_abs, refl}
 use Rattle.std.proofs.Common.{Bool, IsTrue, ◌↔◌, if◌then◌else◌, inl, inr, ⊎_elim, ap, ◌∙◌, arith, rules}
 use Rattle.std.proofs.lemmas.Int.{ints}
 use Rattle.std.proofs.lemmas.List.{get_or_past, get_or_read}
@@ -15,35 +15,22 @@ use Rattle.networks.specs.Descent.{upper, Falling, Under}
 use Rattle.quantities.specs.Limits.{most_buses}
 use Rattle.networks.specs.Limits.{most_constraints, most_price}
 use Rattle.networks.specs.Radials.{constraint_at, constraint_bus, constraint_price, reaches, radial_meaning, RadialTells, RadialRefused, buses_over, upper_not_smaller, constraints_over, at_root, bus_beyond, price_over, ConstraintWithin, ConstraintsWithin, RadialWithin}
-use Rattle.networks.specs.Below.{and_then, some_or_each}
-use Rattle.networks.specs.Refused.{clear_within, outside_refused}
+use Rattle.networks.specs.Refused.{and_then, or_at_most, or_each, clear_within, outside_refused}
 use Rattle.networks.specs.DescentLaws.{upper_smaller, reaches_under}
 
 -- ---- refused or within
 
 module _ (us : List ℕ) (cs : List RadialConstraint) where
-  -- a constraint that is outside a limit, by that limit
-  abbrev Outside : ℕ → Type 0
-  Outside j = (constraint_bus cs j ≡ 0) ⊎ ((length us + 1 ≤ constraint_bus cs j) ⊎ (most_price < unsigned_abs (constraint_price cs j)))
-
-  outside_or_within : (j : ℕ) → Outside j ⊎ ConstraintWithin (length us + 1) (constraint_at cs j)
-  outside_or_within j =
-      and_then (⊎_elim inr (λ g. inl (inl (omega arith))) (cases_lt 0 (constraint_bus cs j))) (λ a.
-      and_then (⊎_elim inr (λ g. inl (inr (inl g))) (cases_lt (constraint_bus cs j) (length us + 1))) (λ b.
-      and_then (⊎_elim (λ l. inl (inr (inr l))) inr (cases_lt most_price (unsigned_abs (constraint_price cs j)))) (λ p.
-      inr (a, b, p))))
-
-  outside_refused_at : (j : ℕ) → j < length cs → Outside j → RadialRefused us cs OutsideLimits
-  outside_refused_at j h (inl e) = at_root j h e
-  outside_refused_at j h (inr (inl l)) = bus_beyond j h l
-  outside_refused_at j h (inr (inr l)) = price_over j h l
-
   decided : RadialRefused us cs OutsideLimits ⊎ RadialWithin us cs
   decided =
-      and_then (⊎_elim (λ l. inl (buses_over l)) inr (cases_lt most_buses (length us + 1))) (λ b.
-      and_then (⊎_elim (λ s. inl (upper_not_smaller s.0 s.1 (omega (arith, s.2)))) inr (some_or_each (λ k. k < atℕ us k) (λ k. atℕ us k ≤ k) (λ k. cases_lt k (atℕ us k)) (length us))) (λ f.
-      and_then (⊎_elim (λ l. inl (constraints_over l)) inr (cases_lt most_constraints (length cs))) (λ c.
-      and_then (⊎_elim (λ s. inl (outside_refused_at s.0 s.1 s.2)) inr (some_or_each Outside (λ j. ConstraintWithin (length us + 1) (constraint_at cs j)) outside_or_within (length cs))) (λ e.
+      and_then (or_at_most (length us + 1) most_buses buses_over) (λ b.
+      and_then (or_each _ (length us) (λ k h. or_at_most (atℕ us k) k (λ l. upper_not_smaller k h (omega (arith, l))))) (λ f.
+      and_then (or_at_most (length cs) most_constraints constraints_over) (λ c.
+      and_then (or_each _ (length cs) (λ j h.
+      and_then (or_at_most 1 (constraint_bus cs j) (λ l. at_root j h (omega arith))) (λ r.
+      and_then (or_at_most (suc (constraint_bus cs j)) (length us + 1) (λ l. bus_beyond j h (omega arith))) (λ d.
+      and_then (or_at_most (unsigned_abs (constraint_price cs j)) most_price (price_over j h)) (λ p.
+      inr (r, d, p)))))) (λ e.
       inr (record { buses = b; falling = f; constraints = c; each = e })))))
 
   -- there is one cause
@@ -101,8 +88,3 @@ module _ (us : List ℕ) (cs : List RadialConstraint) (falling : Falling us) whe
     beyond_constraints = told_beyond_constraints;
     beyond_buses = told_beyond_buses;
   }
-
--- the bus of the constraint that is read at j
-pub bus_read : (cs : List RadialConstraint) (j k : ℕ) (c : RadialConstraint) → k ≡ j → j < length cs → c ≡ slice_index_or cs k c → c.bus ≡ constraint_bus cs j
-bus_read cs j k c e h r =
-    ap (λ (x : RadialConstraint). x.bus) (get_or_read cs j c h (r ∙ ap (λ i. get_or cs i c) e) (record { bus = 0; price = record { 0 = pos 0 } }))

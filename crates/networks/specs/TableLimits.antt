@@ -14,8 +14,7 @@ use Rattle.quantities.specs.Limits.{most_buses}
 use Rattle.networks.specs.Limits.{most_constraints, most_price, most_factor, most_spread}
 use Rattle.networks.specs.Meaning.{SpreadMost}
 use Rattle.networks.specs.Tables.{price_at, factor_at, table_meaning, TableRefused, no_bus, buses_over, constraints_over, price_over, other_length, factor_over, spread_over, factor_row, PricesWithin, FactorsWithin, Close, CloseTo, RowsClose, TableWithin}
-use Rattle.networks.specs.Below.{and_then, some_or_each, over_or_within}
-use Rattle.networks.specs.Refused.{clear_within, outside_refused}
+use Rattle.networks.specs.Refused.{and_then, or_at_most, or_each, clear_within, outside_refused}
 
 -- ---- the factors of one constraint
 
@@ -52,25 +51,16 @@ module _ (n : ℕ) (ps : List ShadowPrice) (fs : List Factor) where
       let in_row = row_short n fs j in
       rw (row_apart j i k (in_row i b) (in_row k c)) (h j a i (in_row i b) k (in_row k c))
 
-  close_or_not : TableRefused n ps fs OutsideLimits ⊎ RowsClose n (length ps) fs
-  close_or_not =
-      ⊎_elim (λ s. inl (spread_over s.0 s.2.0 s.2.2.0 s.1 s.2.1 s.2.2.1 s.2.2.2)) (λ each. inr (rows_close each))
-      (some_or_each
-      (λ j. (i : ℕ) × (i < n) × ((k : ℕ) × (k < n) × (most_spread < apart j i k)))
-      (λ j. (i : ℕ) → i < n → (k : ℕ) → k < n → apart j i k ≤ most_spread)
-      (λ j. some_or_each (λ i. (k : ℕ) × (k < n) × (most_spread < apart j i k)) (λ i. (k : ℕ) → k < n → apart j i k ≤ most_spread) (λ i. over_or_within most_spread (apart j i) n) n)
-      (length ps))
-
   decided : TableRefused n ps fs OutsideLimits ⊎ TableWithin n ps fs
   decided =
-      and_then (⊎_elim inr (λ g. inl (no_bus (omega arith))) (cases_lt 0 n)) (λ a.
-      and_then (⊎_elim (λ l. inl (buses_over l)) inr (cases_lt most_buses n)) (λ b.
-      and_then (⊎_elim (λ l. inl (constraints_over l)) inr (cases_lt most_constraints (length ps))) (λ c.
-      and_then (⊎_elim (λ s. inl (price_over s.0 s.1 s.2)) inr (over_or_within most_price (λ j. unsigned_abs (price_at ps j)) (length ps))) (λ p.
+      and_then (or_at_most 1 n (λ l. no_bus (omega arith))) (λ a.
+      and_then (or_at_most n most_buses buses_over) (λ b.
+      and_then (or_at_most (length ps) most_constraints constraints_over) (λ c.
+      and_then (or_each _ (length ps) (λ j h. or_at_most (unsigned_abs (price_at ps j)) most_price (price_over j h))) (λ p.
       and_then (⊎_elim inr (λ d. inl (other_length d)) (cases_eq (length fs) (length ps * n))) (λ w.
-      and_then (⊎_elim (λ s. inl (factor_over s.0 s.1 s.2)) inr (over_or_within most_factor (λ k. unsigned_abs (factor_at fs k)) (length fs))) (λ f.
-      and_then close_or_not (λ s.
-      inr (record { a_bus = a; buses = b; constraints = c; prices = p; whole = w; factors = f; spreads = s }))))))))
+      and_then (or_each _ (length fs) (λ k h. or_at_most (unsigned_abs (factor_at fs k)) most_factor (factor_over k h))) (λ f.
+      and_then (or_each _ (length ps) (λ j h. or_each _ n (λ i a. or_each _ n (λ k b. or_at_most (apart j i k) most_spread (spread_over j i k h a b))))) (λ s.
+      inr (record { a_bus = a; buses = b; constraints = c; prices = p; whole = w; factors = f; spreads = rows_close s }))))))))
 
   -- what is within the limits is not refused
   pub within_clear : TableWithin n ps fs → Clear (TableRefused n ps fs)
