@@ -1,8 +1,8 @@
 -- A radial network is refused where it is outside the limits; what it means, by the relation of descent; and its limits. Assumes nothing.
-use Rattle.std.specs.Prelude.{◌≡◌, ℕ, suc, ◌+◌, ◌<◌, ◌≤◌, ◌⊎◌, List, length, get_or, ℤ, pos, negsuc, Decides, nat_lt, slice_index_or, unsigned_abs, refl}
-use Rattle.std.proofs.Common.{Bool, IsTrue, ◌↔◌, if◌then◌else◌, inl, inr, ⊎_elim, ap, ◌∙◌, arith, rules}
+use Rattle.std.specs.Prelude.{◌≡◌, ℕ, suc, ◌+◌, ◌<◌, ◌≤◌, ◌⊎◌, List, length, ℤ, pos, negsuc, nat_lt, unsigned_abs, refl}
+use Rattle.std.proofs.Common.{Bool, IsTrue, ◌↔◌, if◌then◌else◌, inr, ⊎_elim, ap, arith, rules}
 use Rattle.std.proofs.lemmas.Int.{ints}
-use Rattle.std.proofs.lemmas.List.{get_or_past, get_or_read}
+use Rattle.std.proofs.lemmas.List.{get_or_past}
 use Rattle.std.proofs.lemmas.Bool.Decides.{same_from_decides}
 use Rattle.std.proofs.lemmas.Bool.{cases_lt, cases_Bool, lt-ltb, le-ltb, and_right, cond-false}
 use Rattle.refusals.specs.declared.Cause.{Cause}
@@ -14,7 +14,7 @@ use Rattle.networks.specs.declared.radial.constraint.RadialConstraint.{RadialCon
 use Rattle.networks.specs.Descent.{upper, Falling, Under}
 use Rattle.quantities.specs.Limits.{most_buses}
 use Rattle.networks.specs.Limits.{most_constraints, most_price}
-use Rattle.networks.specs.Radials.{constraint_at, constraint_bus, constraint_price, reaches, radial_meaning, RadialTells, RadialRefused, buses_over, upper_not_smaller, constraints_over, at_root, bus_beyond, price_over, ConstraintWithin, ConstraintsWithin, RadialWithin}
+use Rattle.networks.specs.Radials.{constraint_bus, constraint_price, reaches, radial_meaning, RadialTells, RadialRefused, buses_over, upper_not_smaller, constraints_over, at_root, bus_beyond, price_over, ConstraintsWithin, RadialWithin}
 use Rattle.networks.specs.Refused.{and_then, or_at_most, or_each, clear_within, outside_refused}
 use Rattle.networks.specs.DescentLaws.{upper_smaller, reaches_under}
 
@@ -57,7 +57,7 @@ module _ (us : List ℕ) (cs : List RadialConstraint) (falling : Falling us) whe
   abbrev told : ℕ → ℕ → ℤ
   told j i = (radial_meaning us cs).factor j i
 
-  followed : (j i : ℕ) → Decides (reaches (upper us) (constraint_bus cs j) i i) (Under (upper us) (constraint_bus cs j) i)
+  followed : (j i : ℕ) → IsTrue (reaches (upper us) (constraint_bus cs j) i i) ↔ Under (upper us) (constraint_bus cs j) i
   followed j i = reaches_under (upper us) (upper_smaller us falling) (constraint_bus cs j) i i (omega arith)
 
   -- by any test of descent from the bus of the constraint

@@ -1,5 +1,5 @@
 -- What a radial network means, and where it is refused. Assumes nothing.
-use Rattle.std.specs.Prelude.{◌≡◌, ℕ, zero, suc, ◌+◌, ◌<◌, ◌≤◌, Bool, cond, ◌&&◌, List, length, ℤ, pos, negsuc, ◌==◌, nat_lt, slice_index_or, EachIndex, unsigned_abs}
+use Rattle.std.specs.Prelude.{◌≡◌, ℕ, zero, suc, ◌+◌, ◌<◌, ◌≤◌, Bool, if◌then◌else◌, ◌&&◌, List, length, ℤ, pos, negsuc, ◌==◌, nat_lt, slice_index_or, EachIndex, unsigned_abs}
 use Rattle.refusals.specs.declared.Cause.{Cause}
 use Rattle.refusals.specs.declared.Cause.TheVariants.{OutsideLimits}
 use Rattle.quantities.specs.Sums.{atℕ}
@@ -35,14 +35,14 @@ pub record RadialTells (us : List ℕ) (cs : List RadialConstraint) (w : Meaning
 -- A meaning holds the factors as a function, so here the path is followed: whether it reaches b in at most k steps from i.
 unfoldable pub reaches : (ℕ → ℕ) → ℕ → ℕ → ℕ → Bool
 reaches up b zero i = i == b
-reaches up b (suc k) i = cond (nat_lt b i) (reaches up b k (up i)) (i == b)
+reaches up b (suc k) i = if nat_lt b i then reaches up b k (up i) else i == b
 
 abbrev pub radial_meaning : List ℕ → List RadialConstraint → Meaning
 radial_meaning us cs = record {
   buses = length us + 1;
   constraints = length cs;
   price = constraint_price cs;
-  factor = λ j i. cond (nat_lt j (length cs) && (nat_lt i (length us + 1) && reaches (upper us) (constraint_bus cs j) i i)) (negsuc 999) (pos 0);
+  factor = λ j i. if nat_lt j (length cs) && (nat_lt i (length us + 1) && reaches (upper us) (constraint_bus cs j) i i) then negsuc 999 else pos 0;
 }
 
 -- ---- where it is refused

@@ -62,19 +62,23 @@ module _ (n : ℕ) (ps : List ShadowPrice) (fs : List Factor) where
       and_then (or_each _ (length ps) (λ j h. or_each _ n (λ i a. or_each _ n (λ k b. or_at_most (apart j i k) most_spread (spread_over j i k h a b))))) (λ s.
       inr (record { a_bus = a; buses = b; constraints = c; prices = p; whole = w; factors = f; spreads = rows_close s }))))))))
 
+  -- how far apart two factors of one constraint lie
+  pub spread_kept : TableWithin n ps fs → (j i k : ℕ) → j < length ps → i < n → k < n → apart j i k ≤ most_spread
+  unfolding Close CloseTo
+  spread_kept w j i k h a b =
+      let long = row_length n (length ps) fs j w.whole h in
+      let close = w.spreads j h i (omega arith) k (omega arith) in
+      omega (arith, row_apart j i k a b)
+
   -- what is within the limits is not refused
   pub within_clear : TableWithin n ps fs → Clear (TableRefused n ps fs)
-  unfolding Close CloseTo
   within_clear w c (no_bus e) = omega (arith, w.a_bus)
   within_clear w c (buses_over l) = omega (arith, w.buses)
   within_clear w c (constraints_over l) = omega (arith, w.constraints)
   within_clear w c (price_over j h l) = omega (arith, w.prices j h)
   within_clear w c (other_length d) = d w.whole
   within_clear w c (factor_over k h l) = omega (arith, w.factors k h)
-  within_clear w c (spread_over j i k h a b l) =
-      let long = row_length n (length ps) fs j w.whole h in
-      let close = w.spreads j h i (omega arith) k (omega arith) in
-      omega (arith, row_apart j i k a b)
+  within_clear w c (spread_over j i k h a b l) = omega (arith, spread_kept w j i k h a b)
 
   -- there is one cause
   least : (d : Cause) → TableRefused n ps fs d → 13 ≤ number d
@@ -128,11 +132,8 @@ module _ (n : ℕ) (ps : List ShadowPrice) (fs : List Factor) where
       ⊎_elim (λ e. omega (arith, ints)) (λ t. let end = row_end n (length ps) j t.0 in let most = within (j * n + i) (omega (arith, t.1)) in omega (arith, ints, t.2)) (told_cases j i)
 
   pub spread_most : TableWithin n ps fs → SpreadMost (table_meaning n ps fs)
-  unfolding Close CloseTo
   spread_most w j i k =
       let a = factor_most w.whole w.factors j i in
       let b = factor_most w.whole w.factors j k in
       ⊎_elim (λ e. omega (arith, ints)) (λ t. ⊎_elim (λ e. omega (arith, ints)) (λ u.
-      let long = row_length n (length ps) fs j w.whole t.0 in
-      let close = w.spreads j t.0 i (omega (arith, t.1)) k (omega (arith, u.1)) in
-      omega (arith, ints, t.2, u.2, row_apart n ps fs j i k t.1 u.1)) (told_cases j k)) (told_cases j i)
+      omega (arith, ints, t.2, u.2, spread_kept n ps fs w j i k t.0 t.1 u.1)) (told_cases j k)) (told_cases j i)

@@ -1,5 +1,5 @@
 -- What a table of prices and factors means, and where it is refused. Assumes nothing.
-use Rattle.std.specs.Prelude.{◌≡◌, ℕ, ◌+◌, ◌*◌, ◌<◌, ◌≤◌, cond, ◌&&◌, ◌≢◌, List, length, take, drop, ℤ, pos, ◌-ℤ◌, nat_lt, slice_index_or, EachIndex, unsigned_abs}
+use Rattle.std.specs.Prelude.{◌≡◌, ℕ, ◌+◌, ◌*◌, ◌<◌, ◌≤◌, if◌then◌else◌, ◌&&◌, ◌≢◌, List, length, take, drop, ℤ, pos, ◌-ℤ◌, nat_lt, slice_index_or, EachIndex, unsigned_abs}
 use Rattle.refusals.specs.declared.Cause.{Cause}
 use Rattle.refusals.specs.declared.Cause.TheVariants.{OutsideLimits}
 use Rattle.quantities.specs.declared.kinds.Factor.{Factor}
@@ -21,7 +21,7 @@ table_meaning n ps fs = record {
   buses = n;
   constraints = length ps;
   price = price_at ps;
-  factor = λ j i. cond (nat_lt j (length ps) && nat_lt i n) (factor_at fs (j * n + i)) (pos 0);
+  factor = λ j i. if nat_lt j (length ps) && nat_lt i n then factor_at fs (j * n + i) else pos 0;
 }
 
 -- ---- where such a table is refused
