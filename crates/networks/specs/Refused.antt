@@ -8,6 +8,7 @@ use Rattle.refusals.specs.Answers.{First, Clear}
 use Rattle.refusals.specs.Causes.{number}
 
 module _ {R : Type 0} where
+  -- one limit after the other: R where one is passed
   pub and_then : {A B : Type 0} → R ⊎ A → (A → R ⊎ B) → R ⊎ B
   and_then (inl r) f = inl r
   and_then (inr a) f = f a
@@ -15,7 +16,7 @@ module _ {R : Type 0} where
   pub or_at_most : (a b : ℕ) → (b < a → R) → R ⊎ (a ≤ b)
   or_at_most a b over = ⊎_elim (λ l. inl (over l)) inr (cases_lt b a)
 
-  -- at each place below n
+  -- a limit at each place below n
   pub or_each : (Q : ℕ → Type 0) (n : ℕ) → ((k : ℕ) → k < n → R ⊎ Q k) → R ⊎ ((k : ℕ) → k < n → Q k)
   or_each Q zero here = inr (λ k h. absurd (omega arith))
   or_each Q (suc n) here =

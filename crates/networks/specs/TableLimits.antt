@@ -63,7 +63,7 @@ module _ (n : ℕ) (ps : List ShadowPrice) (fs : List Factor) where
       inr (record { a_bus = a; buses = b; constraints = c; prices = p; whole = w; factors = f; spreads = rows_close s }))))))))
 
   -- how far apart two factors of one constraint lie
-  pub spread_kept : TableWithin n ps fs → (j i k : ℕ) → j < length ps → i < n → k < n → apart j i k ≤ most_spread
+  spread_kept : TableWithin n ps fs → (j i k : ℕ) → j < length ps → i < n → k < n → apart j i k ≤ most_spread
   unfolding Close CloseTo
   spread_kept w j i k h a b =
       let long = row_length n (length ps) fs j w.whole h in

@@ -18,7 +18,7 @@ use quantities::{Factor, ShadowPrice};
 
 #[derive(Drop)]
 pub struct Radial {
-    // entry k is the upper bus of bus k + 1
+    // entry k is the upper bus of bus k + 1. Paths are followed upward alone; in lists of lower buses they would be searched
     uppers: Vec<u16>,
     constraints: Vec<RadialConstraint>,
     ghost buses_most: { length uppers.items + 1 ≤ most_buses },

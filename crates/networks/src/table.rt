@@ -16,7 +16,8 @@ use quantities::{Factor, ShadowPrice};
 pub struct Table {
     buses: u16,
     prices: Vec<ShadowPrice>,
-    // constraint by constraint: the factor of constraint j at bus i stands at j × buses + i
+    // constraint by constraint: the factor of constraint j at bus i stands at j × buses + i. The list stays flat, as the
+    // caller gives it: a list for each constraint would be an allocation and a length to check for each
     factors: Vec<Factor>,
     ghost a_bus: { 1 ≤ buses },
     ghost buses_most: { buses ≤ most_buses },

@@ -53,6 +53,7 @@ fn prices_within(prices: &[ShadowPrice]) -> bool
         .all(|price| price.0.unsigned_abs() <= MAX_SHADOW_PRICE)
 }
 
+// Beside `prices_within`, since one function for both would take the size as a closure and be longer than the two.
 fn factors_within(factors: &[Factor]) -> bool
     ensures { IsTrue result ↔ FactorsWithin factors.now }
 {
@@ -61,7 +62,7 @@ fn factors_within(factors: &[Factor]) -> bool
         .all(|factor| factor.0.unsigned_abs() <= MAX_FACTOR)
 }
 
-// Whether the factors of each constraint lie close together, where each row has a factor for each bus.
+// Whether the factors of each constraint lie close together. A row has a factor for each bus.
 fn rows_close(buses: usize, factors: &[Factor]) -> bool
     requires a_bus { 1 ≤ buses }
     ensures { IsTrue result ↔ RowsClose buses (length factors.now / buses) factors.now }
