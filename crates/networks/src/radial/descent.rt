@@ -6,7 +6,7 @@ ghost use Rattle.networks.specs.Descent.{upper, Falling, Under};
 pub(super) fn is_under(uppers: &[u16], top: u16, bus: u16) -> bool
     requires falling { Falling uppers.now }
     requires within { bus ≤ length uppers.now }
-    ensures { IsTrue result ↔ Under (upper uppers.now) top bus }
+    ensures { IsTrue result ↔ (Under (upper uppers.now) top bus) }
 {
     let mut reached = bus;
     while reached > top {

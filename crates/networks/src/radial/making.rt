@@ -54,7 +54,7 @@ fn uppers_smaller(uppers: &[u16]) -> bool
 
 // Whether each constraint is within the limits of a network whose last bus is `last`.
 fn constraints_within(last: usize, constraints: &[RadialConstraint]) -> bool
-    ensures { IsTrue result ↔ ConstraintsWithin (last + 1) constraints.now }
+    ensures { IsTrue result ↔ (ConstraintsWithin (last + 1) constraints.now) }
 {
     constraints
         .iter()
@@ -62,9 +62,8 @@ fn constraints_within(last: usize, constraints: &[RadialConstraint]) -> bool
 }
 
 fn constraint_within(last: usize, constraint: RadialConstraint) -> bool
-    ensures { IsTrue result ↔ ConstraintWithin (last + 1) constraint }
+    ensures { IsTrue result ↔ (ConstraintWithin (last + 1) constraint) }
 {
-    constraint.bus >= 1
-        && usize::from(constraint.bus) <= last
+    (1..=last).contains(&usize::from(constraint.bus))
         && constraint.price.0.unsigned_abs() <= MAX_SHADOW_PRICE
 }

@@ -36,8 +36,7 @@ impl Table {
 fn within_limits(buses: u16, prices: &[ShadowPrice], factors: &[Factor]) -> bool
     ensures { IsTrue result ↔ TableWithin buses prices.now factors.now }
 {
-    buses >= 1
-        && buses <= MAX_BUSES
+    (1..=MAX_BUSES).contains(&buses)
         && prices.len() <= usize::from(MAX_CONSTRAINTS)
         && prices_within(prices)
         && factors.len() == prices.len() * usize::from(buses)
@@ -65,7 +64,7 @@ fn factors_within(factors: &[Factor]) -> bool
 // Whether the factors of each constraint lie close together. A row has a factor for each bus.
 fn rows_close(buses: usize, factors: &[Factor]) -> bool
     requires a_bus { 1 ≤ buses }
-    ensures { IsTrue result ↔ RowsClose buses (length factors.now / buses) factors.now }
+    ensures { IsTrue result ↔ (RowsClose buses (length factors.now / buses) factors.now) }
 {
     factors.chunks_exact(buses).all(close)
 }
