@@ -1,5 +1,5 @@
 -- The laws of descent, and the path of upper buses followed step by step. Assumes nothing.
-use Rattle.std.specs.Prelude.{◌≡◌, ℕ, zero, suc, ◌-◌, ◌<◌, ◌≤◌, List, length, Decides, ◌==◌}
+use Rattle.std.specs.Prelude.{ℕ, zero, suc, ◌-◌, ◌<◌, ◌≤◌, List, length, IsTrue, ◌↔◌, ◌==◌}
 use Rattle.std.proofs.Math.Logic.{inl, inr}
 use Rattle.std.proofs.Common.{⊎_elim, sym, subst, arith}
 use Rattle.std.proofs.lemmas.List.{get_or_past}
@@ -23,11 +23,11 @@ module _ (up : ℕ → ℕ) (smaller : (i : ℕ) → 0 < i → up i < i) (b : �
   under_upper (from i h p) l = p
 
   -- where no step is left
-  pub under_end : (i : ℕ) → i ≤ b → Decides (i == b) (Under up b i)
+  pub under_end : (i : ℕ) → i ≤ b → IsTrue (i == b) ↔ Under up b i
   under_end i h =
       (λ e. subst (λ (k : ℕ). Under up b k) (sym (eqb-true i b e)) here, λ p. eq-eqb i b (omega (arith, under_above p)))
 
-  pub reaches_under : (k i : ℕ) → i ≤ k → Decides (reaches up b k i) (Under up b i)
+  pub reaches_under : (k i : ℕ) → i ≤ k → IsTrue (reaches up b k i) ↔ Under up b i
   unfolding reaches
   reaches_under zero i h = under_end i (omega arith)
   reaches_under (suc k) i h = elim (cases_lt b i) [
@@ -36,8 +36,3 @@ module _ (up : ℕ → ℕ) (smaller : (i : ℕ) → 0 < i → up i < i) (b : �
         rw (lt-ltb b i l) (λ t. from i (omega arith) (d.0 t), λ p. d.1 (under_upper p l))
     | inr g ↦ rw (le-ltb b i g) (under_end i g)
   ]
-
--- of the same tree and the same bus
-pub under_same : (us vs : List ℕ) (b d : ℕ) {i : ℕ} → vs ≡ us → d ≡ b → Under (upper vs) d i → Under (upper us) b i
-under_same us vs b d {i} e f p =
-    subst (λ (x : ℕ). Under (upper us) x i) f (subst (λ (xs : List ℕ). Under (upper xs) d i) e p)

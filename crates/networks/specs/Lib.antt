@@ -4,6 +4,6 @@ pub mod Tables
 pub mod Descent
 pub mod Radials
 pub mod RadialLimits
-pub mod Below
+pub mod Refused
 pub mod DescentLaws
 pub mod TableLimits

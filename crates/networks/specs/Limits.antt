@@ -1,8 +1,5 @@
--- The limits of a network. Assumes nothing.
+-- The limits of a network, besides the most buses. Assumes nothing.
 use Rattle.std.specs.Prelude.{ℕ}
-
-abbrev pub most_buses : ℕ
-most_buses = 32
 
 abbrev pub most_constraints : ℕ
 most_constraints = 8

@@ -1,7 +1,8 @@
 -- What a network means, its limits, and the congestion price at a bus. Assumes nothing.
 use Rattle.std.specs.Prelude.{◌≡◌, ℕ, ◌<◌, ◌≤◌, ℤ, pos, ◌-ℤ◌, ◌*ℤ◌, unsigned_abs}
 use Rattle.quantities.specs.Sums.{sum}
-use Rattle.networks.specs.Limits.{most_buses, most_constraints, most_price, most_factor, most_spread}
+use Rattle.quantities.specs.Limits.{most_buses}
+use Rattle.networks.specs.Limits.{most_constraints, most_price, most_factor, most_spread}
 
 -- its counts, the shadow price of each constraint, and the factor of each constraint at each bus
 pub record Meaning : Type 0 where

@@ -1,11 +1,12 @@
 -- What a radial network means, and where it is refused. Assumes nothing.
-use Rattle.std.specs.Prelude.{◌≡◌, ℕ, zero, suc, ◌+◌, ◌<◌, ◌≤◌, Bool, cond, ◌&&◌, List, length, ℤ, pos, negsuc, ◌==◌, nat_lt, slice_index_or, unsigned_abs}
+use Rattle.std.specs.Prelude.{◌≡◌, ℕ, zero, suc, ◌+◌, ◌<◌, ◌≤◌, Bool, if◌then◌else◌, ◌&&◌, List, length, ℤ, pos, negsuc, ◌==◌, nat_lt, slice_index_or, EachIndex, unsigned_abs}
 use Rattle.refusals.specs.declared.Cause.{Cause}
 use Rattle.refusals.specs.declared.Cause.TheVariants.{OutsideLimits}
 use Rattle.quantities.specs.Sums.{atℕ}
 use Rattle.networks.specs.declared.radial.constraint.RadialConstraint.{RadialConstraint}
 use Rattle.networks.specs.Descent.{upper, Falling, Under}
-use Rattle.networks.specs.Limits.{most_buses, most_constraints, most_price}
+use Rattle.quantities.specs.Limits.{most_buses}
+use Rattle.networks.specs.Limits.{most_constraints, most_price}
 use Rattle.networks.specs.Meaning.{Meaning}
 
 -- the constraint at a place of a list, with its bus and its price; nought past the end
@@ -34,14 +35,14 @@ pub record RadialTells (us : List ℕ) (cs : List RadialConstraint) (w : Meaning
 -- A meaning holds the factors as a function, so here the path is followed: whether it reaches b in at most k steps from i.
 unfoldable pub reaches : (ℕ → ℕ) → ℕ → ℕ → ℕ → Bool
 reaches up b zero i = i == b
-reaches up b (suc k) i = cond (nat_lt b i) (reaches up b k (up i)) (i == b)
+reaches up b (suc k) i = if nat_lt b i then reaches up b k (up i) else i == b
 
 abbrev pub radial_meaning : List ℕ → List RadialConstraint → Meaning
 radial_meaning us cs = record {
   buses = length us + 1;
   constraints = length cs;
   price = constraint_price cs;
-  factor = λ j i. cond (nat_lt j (length cs) && (nat_lt i (length us + 1) && reaches (upper us) (constraint_bus cs j) i i)) (negsuc 999) (pos 0);
+  factor = λ j i. if nat_lt j (length cs) && (nat_lt i (length us + 1) && reaches (upper us) (constraint_bus cs j) i i) then negsuc 999 else pos 0;
 }
 
 -- ---- where it is refused
@@ -60,12 +61,12 @@ pub data RadialRefused (us : List ℕ) (cs : List RadialConstraint) : Cause → 
 abbrev pub ConstraintWithin : ℕ → RadialConstraint → Type 0
 ConstraintWithin n c = (1 ≤ c.bus) × (c.bus < n) × (unsigned_abs c.price.0 ≤ most_price)
 
--- each of the first m
-abbrev pub ConstraintsWithin : ℕ → List RadialConstraint → ℕ → Type 0
-ConstraintsWithin n cs m = (j : ℕ) → j < m → ConstraintWithin n (constraint_at cs j)
+-- each constraint
+abbrev pub ConstraintsWithin : ℕ → List RadialConstraint → Type 0
+ConstraintsWithin n cs = EachIndex cs (λ j. ConstraintWithin n (constraint_at cs j))
 
 pub record RadialWithin (us : List ℕ) (cs : List RadialConstraint) : Type 0 where
   pub buses : length us + 1 ≤ most_buses
   pub falling : Falling us
   pub constraints : length cs ≤ most_constraints
-  pub each : ConstraintsWithin (length us + 1) cs (length cs)
+  pub each : ConstraintsWithin (length us + 1) cs

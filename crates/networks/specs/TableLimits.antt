@@ -1,19 +1,20 @@
 -- A table is refused where it is outside the limits, and what is within them keeps to the limits of a network. Assumes nothing.
 use Rattle.std.specs.Prelude.{◌≡◌, ℕ, ◌+◌, ◌*◌, ◌<◌, ◌≤◌, ◌⊎◌, List, length, drop, ℤ, pos, ◌-ℤ◌, unsigned_abs, refl}
-use Rattle.std.proofs.Common.{inl, inr, ⊎_elim, ap, ◌∙◌, mul-le-mul_right, suc-mul, arith, lit≤}
+use Rattle.std.proofs.Common.{inl, inr, ⊎_elim, ap, sym, ◌∙◌, mul-le-mul_right, suc-mul, arith, rules}
 use Rattle.std.proofs.lemmas.Int.{ints}
 use Rattle.std.proofs.lemmas.List.{get_or_past, get_or-take, get_or-drop, length-take, length-take-le, length-drop}
 use Rattle.std.proofs.lemmas.Bool.{cases_lt, cases_eq, lt-ltb, le-ltb, and_right, cond-false}
 use Rattle.refusals.specs.declared.Cause.{Cause}
 use Rattle.refusals.specs.declared.Cause.TheVariants.{OutsideLimits}
-use Rattle.refusals.specs.Answers.{Clear}
+use Rattle.refusals.specs.Answers.{First, Clear}
 use Rattle.refusals.specs.Causes.{number}
 use Rattle.quantities.specs.declared.kinds.Factor.{Factor}
 use Rattle.quantities.specs.declared.kinds.ShadowPrice.{ShadowPrice}
-use Rattle.networks.specs.Limits.{most_buses, most_constraints, most_price, most_factor, most_spread}
+use Rattle.quantities.specs.Limits.{most_buses}
+use Rattle.networks.specs.Limits.{most_constraints, most_price, most_factor, most_spread}
 use Rattle.networks.specs.Meaning.{SpreadMost}
-use Rattle.networks.specs.Tables.{price_at, factor_at, table_meaning, TableRefused, no_bus, buses_over, constraints_over, price_over, other_length, factor_over, spread_over, factor_row, PricesWithin, FactorsWithin, RowsClose, TableWithin}
-use Rattle.networks.specs.Below.{and_then, some_or_each, over_or_within}
+use Rattle.networks.specs.Tables.{price_at, factor_at, table_meaning, TableRefused, no_bus, buses_over, constraints_over, price_over, other_length, factor_over, spread_over, factor_row, PricesWithin, FactorsWithin, Close, CloseTo, RowsClose, TableWithin}
+use Rattle.networks.specs.Refused.{and_then, or_at_most, or_each, clear_within, outside_refused}
 
 -- ---- the factors of one constraint
 
@@ -45,29 +46,29 @@ module _ (n : ℕ) (ps : List ShadowPrice) (fs : List Factor) where
       ap (λ z. unsigned_abs (z -ℤ factor_at (factor_row n fs j) k)) (row_at n fs j i h) ∙ ap (λ z. unsigned_abs (factor_at fs (j * n + i) -ℤ z)) (row_at n fs j k l)
 
   rows_close : ((j : ℕ) → j < length ps → (i : ℕ) → i < n → (k : ℕ) → k < n → apart j i k ≤ most_spread) → RowsClose n (length ps) fs
+  unfolding Close CloseTo
   rows_close h j a i b k c =
       let in_row = row_short n fs j in
       rw (row_apart j i k (in_row i b) (in_row k c)) (h j a i (in_row i b) k (in_row k c))
 
-  close_or_not : TableRefused n ps fs OutsideLimits ⊎ RowsClose n (length ps) fs
-  close_or_not =
-      ⊎_elim (λ s. inl (spread_over s.0 s.2.0 s.2.2.0 s.1 s.2.1 s.2.2.1 s.2.2.2)) (λ each. inr (rows_close each))
-      (some_or_each
-      (λ j. (i : ℕ) × (i < n) × ((k : ℕ) × (k < n) × (most_spread < apart j i k)))
-      (λ j. (i : ℕ) → i < n → (k : ℕ) → k < n → apart j i k ≤ most_spread)
-      (λ j. some_or_each (λ i. (k : ℕ) × (k < n) × (most_spread < apart j i k)) (λ i. (k : ℕ) → k < n → apart j i k ≤ most_spread) (λ i. over_or_within most_spread (apart j i) n) n)
-      (length ps))
-
-  pub decided : TableRefused n ps fs OutsideLimits ⊎ TableWithin n ps fs
+  decided : TableRefused n ps fs OutsideLimits ⊎ TableWithin n ps fs
   decided =
-      and_then (⊎_elim inr (λ g. inl (no_bus (omega arith))) (cases_lt 0 n)) (λ a.
-      and_then (⊎_elim (λ l. inl (buses_over l)) inr (cases_lt most_buses n)) (λ b.
-      and_then (⊎_elim (λ l. inl (constraints_over l)) inr (cases_lt most_constraints (length ps))) (λ c.
-      and_then (⊎_elim (λ s. inl (price_over s.0 s.1 s.2)) inr (over_or_within most_price (λ j. unsigned_abs (price_at ps j)) (length ps))) (λ p.
+      and_then (or_at_most 1 n (λ l. no_bus (omega arith))) (λ a.
+      and_then (or_at_most n most_buses buses_over) (λ b.
+      and_then (or_at_most (length ps) most_constraints constraints_over) (λ c.
+      and_then (or_each _ (length ps) (λ j h. or_at_most (unsigned_abs (price_at ps j)) most_price (price_over j h))) (λ p.
       and_then (⊎_elim inr (λ d. inl (other_length d)) (cases_eq (length fs) (length ps * n))) (λ w.
-      and_then (⊎_elim (λ s. inl (factor_over s.0 s.1 s.2)) inr (over_or_within most_factor (λ k. unsigned_abs (factor_at fs k)) (length fs))) (λ f.
-      and_then close_or_not (λ s.
-      inr (record { a_bus = a; buses = b; constraints = c; prices = p; whole = w; factors = f; spreads = s }))))))))
+      and_then (or_each _ (length fs) (λ k h. or_at_most (unsigned_abs (factor_at fs k)) most_factor (factor_over k h))) (λ f.
+      and_then (or_each _ (length ps) (λ j h. or_each _ n (λ i a. or_each _ n (λ k b. or_at_most (apart j i k) most_spread (spread_over j i k h a b))))) (λ s.
+      inr (record { a_bus = a; buses = b; constraints = c; prices = p; whole = w; factors = f; spreads = rows_close s }))))))))
+
+  -- how far apart two factors of one constraint lie
+  spread_kept : TableWithin n ps fs → (j i k : ℕ) → j < length ps → i < n → k < n → apart j i k ≤ most_spread
+  unfolding Close CloseTo
+  spread_kept w j i k h a b =
+      let long = row_length n (length ps) fs j w.whole h in
+      let close = w.spreads j h i (omega arith) k (omega arith) in
+      omega (arith, row_apart j i k a b)
 
   -- what is within the limits is not refused
   pub within_clear : TableWithin n ps fs → Clear (TableRefused n ps fs)
@@ -77,20 +78,17 @@ module _ (n : ℕ) (ps : List ShadowPrice) (fs : List Factor) where
   within_clear w c (price_over j h l) = omega (arith, w.prices j h)
   within_clear w c (other_length d) = d w.whole
   within_clear w c (factor_over k h l) = omega (arith, w.factors k h)
-  within_clear w c (spread_over j i k h a b l) =
-      let long = row_length n (length ps) fs j w.whole h in
-      let close = w.spreads j h i (omega arith) k (omega arith) in
-      omega (arith, row_apart j i k a b)
+  within_clear w c (spread_over j i k h a b l) = omega (arith, spread_kept w j i k h a b)
 
   -- there is one cause
-  pub least : (d : Cause) → TableRefused n ps fs d → 13 ≤ number d
-  least d (no_bus e) = lit≤ tt
-  least d (buses_over l) = lit≤ tt
-  least d (constraints_over l) = lit≤ tt
-  least d (price_over j h l) = lit≤ tt
-  least d (other_length e) = lit≤ tt
-  least d (factor_over k h l) = lit≤ tt
-  least d (spread_over j i k h a b l) = lit≤ tt
+  least : (d : Cause) → TableRefused n ps fs d → 13 ≤ number d
+  least d r = search rules
+
+  pub refused : ¬ TableWithin n ps fs → First (TableRefused n ps fs) OutsideLimits
+  refused = outside_refused _ _ decided least
+
+  pub within : Clear (TableRefused n ps fs) → TableWithin n ps fs
+  within = clear_within _ _ decided
 
 -- ---- the limits of a network
 
@@ -118,6 +116,17 @@ module _ (n : ℕ) (ps : List ShadowPrice) (fs : List Factor) where
       (λ a. inl (beyond_constraints j i a))
       (cases_lt j (length ps))
 
+  -- what stands at i in the row of j
+  pub told_read : length fs ≡ length ps * n → (j i : ℕ) → factor_at (factor_row n fs j) i ≡ told j i
+  told_read whole j i =
+      ⊎_elim
+      (λ b. row_at n fs j i b ∙ ⊎_elim
+      (λ a. sym (rw (lt-ltb j (length ps) a, lt-ltb i n b) refl))
+      (λ a. let past = mul-le-mul_right n a in ap (λ (f : Factor). f.0) (get_or_past fs (j * n + i) (record { 0 = pos 0 }) (omega arith)) ∙ sym (beyond_constraints j i a))
+      (cases_lt j (length ps)))
+      (λ b. let short = length-take n (drop (j * n) fs) in ap (λ (f : Factor). f.0) (get_or_past (factor_row n fs j) i (record { 0 = pos 0 }) (omega arith)) ∙ sym (beyond_buses j i b))
+      (cases_lt i n)
+
   pub factor_most : length fs ≡ length ps * n → FactorsWithin fs → (j i : ℕ) → unsigned_abs (told j i) ≤ most_factor
   factor_most whole within j i =
       ⊎_elim (λ e. omega (arith, ints)) (λ t. let end = row_end n (length ps) j t.0 in let most = within (j * n + i) (omega (arith, t.1)) in omega (arith, ints, t.2)) (told_cases j i)
@@ -127,6 +136,4 @@ module _ (n : ℕ) (ps : List ShadowPrice) (fs : List Factor) where
       let a = factor_most w.whole w.factors j i in
       let b = factor_most w.whole w.factors j k in
       ⊎_elim (λ e. omega (arith, ints)) (λ t. ⊎_elim (λ e. omega (arith, ints)) (λ u.
-      let long = row_length n (length ps) fs j w.whole t.0 in
-      let close = w.spreads j t.0 i (omega (arith, t.1)) k (omega (arith, u.1)) in
-      omega (arith, ints, t.2, u.2, row_apart n ps fs j i k t.1 u.1)) (told_cases j k)) (told_cases j i)
+      omega (arith, ints, t.2, u.2, spread_kept n ps fs w j i k t.0 t.1 u.1)) (told_cases j k)) (told_cases j i)

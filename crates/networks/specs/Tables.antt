@@ -1,10 +1,11 @@
 -- What a table of prices and factors means, and where it is refused. Assumes nothing.
-use Rattle.std.specs.Prelude.{◌≡◌, ℕ, ◌+◌, ◌*◌, ◌<◌, ◌≤◌, cond, ◌&&◌, ◌≢◌, List, length, take, drop, ℤ, pos, ◌-ℤ◌, nat_lt, slice_index_or, unsigned_abs}
+use Rattle.std.specs.Prelude.{◌≡◌, ℕ, ◌+◌, ◌*◌, ◌<◌, ◌≤◌, if◌then◌else◌, ◌&&◌, ◌≢◌, List, length, take, drop, ℤ, pos, ◌-ℤ◌, nat_lt, slice_index_or, EachIndex, unsigned_abs}
 use Rattle.refusals.specs.declared.Cause.{Cause}
 use Rattle.refusals.specs.declared.Cause.TheVariants.{OutsideLimits}
 use Rattle.quantities.specs.declared.kinds.Factor.{Factor}
 use Rattle.quantities.specs.declared.kinds.ShadowPrice.{ShadowPrice}
-use Rattle.networks.specs.Limits.{most_buses, most_constraints, most_price, most_factor, most_spread}
+use Rattle.quantities.specs.Limits.{most_buses}
+use Rattle.networks.specs.Limits.{most_constraints, most_price, most_factor, most_spread}
 use Rattle.networks.specs.Meaning.{Meaning}
 
 -- the price at a place of a list, and the factor; nought past the end
@@ -20,7 +21,7 @@ table_meaning n ps fs = record {
   buses = n;
   constraints = length ps;
   price = price_at ps;
-  factor = λ j i. cond (nat_lt j (length ps) && nat_lt i n) (factor_at fs (j * n + i)) (pos 0);
+  factor = λ j i. if nat_lt j (length ps) && nat_lt i n then factor_at fs (j * n + i) else pos 0;
 }
 
 -- ---- where such a table is refused
@@ -37,18 +38,18 @@ pub data TableRefused (n : ℕ) (ps : List ShadowPrice) (fs : List Factor) : Cau
 -- ---- the same limits, kept
 
 abbrev pub PricesWithin : List ShadowPrice → Type 0
-PricesWithin ps = (j : ℕ) → j < length ps → unsigned_abs (price_at ps j) ≤ most_price
+PricesWithin ps = EachIndex ps (λ j. unsigned_abs (price_at ps j) ≤ most_price)
 
 abbrev pub FactorsWithin : List Factor → Type 0
-FactorsWithin fs = (k : ℕ) → k < length fs → unsigned_abs (factor_at fs k) ≤ most_factor
+FactorsWithin fs = EachIndex fs (λ k. unsigned_abs (factor_at fs k) ≤ most_factor)
 
--- f lies close to each factor of a row
-abbrev pub CloseTo : ℤ → List Factor → Type 0
-CloseTo f row = (k : ℕ) → k < length row → unsigned_abs (f -ℤ factor_at row k) ≤ most_spread
+-- f lies close to each factor of a row. Opaque in proofs, as `Close` is: a search that unfolds both stops at its limits
+unfoldable pub CloseTo : ℤ → List Factor → Type 0
+CloseTo f row = EachIndex row (λ k. unsigned_abs (f -ℤ factor_at row k) ≤ most_spread)
 
 -- any two factors of a row lie close together
-abbrev pub Close : List Factor → Type 0
-Close row = (i : ℕ) → i < length row → CloseTo (factor_at row i) row
+unfoldable pub Close : List Factor → Type 0
+Close row = EachIndex row (λ i. CloseTo (factor_at row i) row)
 
 -- the n factors of constraint j
 abbrev pub factor_row : ℕ → List Factor → ℕ → List Factor

@@ -6,7 +6,8 @@ mod prices;
 mod radial;
 mod table;
 
-pub use network::{MAX_BUSES, MAX_CONSTRAINTS, MAX_FACTOR, MAX_SHADOW_PRICE, MAX_SPREAD, Network};
+pub use network::{MAX_CONSTRAINTS, MAX_FACTOR, MAX_SHADOW_PRICE, MAX_SPREAD, Network};
 pub use prices::congestion_price;
+pub use quantities::MAX_BUSES;
 pub use radial::{Radial, RadialConstraint};
 pub use table::Table;

@@ -1,11 +1,10 @@
 // What a network tells.
 ghost use Rattle.std.specs.Prelude.{◌≡◌, ℕ, ◌≤◌, pos, unsigned_abs};
-ghost use Rattle.networks.specs.Limits.{most_buses, most_constraints, most_factor, most_price};
+ghost use Rattle.quantities.specs.Limits.{most_buses};
+ghost use Rattle.networks.specs.Limits.{most_constraints, most_factor, most_price};
 ghost use Rattle.networks.specs.Meaning.{Meaning, SpreadMost};
 
 use quantities::{Factor, ShadowPrice};
-
-pub const MAX_BUSES: u16 = 32;
 
 pub const MAX_CONSTRAINTS: u8 = 8;
 

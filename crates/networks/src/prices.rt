@@ -1,6 +1,5 @@
 // The congestion price at a bus of any network.
-ghost use Rattle.std.specs.Prelude.{◌≡◌, ◌≤◌, ◌+ℤ◌, FitsSigned, unsigned_abs};
-ghost use Rattle.std.specs.Int.{w64};
+ghost use Rattle.std.specs.Prelude.{◌≡◌, ◌≤◌, unsigned_abs};
 ghost use Rattle.networks.specs.Meaning.{congestion_price_at};
 
 use crate::network::Network;
@@ -11,17 +10,12 @@ pub fn congestion_price<N: Network>(network: &N, bus: u16) -> CongestionPrice
     ensures value { result.0 ≡ congestion_price_at (N.Network.meaning network.now) bus }
     ensures bound { unsigned_abs result.0 ≤ 8000000000 }
 {
-    let mut price = CongestionPrice(0);
-    for j in 0..network.constraints() {
-        let part = network.shadow_price(j).times_factor(network.factor(j, bus));
-        price = plus(price, part);
-    }
-    price
-}
-
-fn plus(price: CongestionPrice, part: CongestionPrice) -> CongestionPrice
-    requires { FitsSigned w64 (price.0 +ℤ part.0) }
-    ensures { result.0 ≡ price.0 +ℤ part.0 }
-{
-    CongestionPrice(price.0 + part.0)
+    let price = (0..network.constraints())
+        .map(|constraint| {
+            let shadow_price = network.shadow_price(constraint);
+            let factor = network.factor(constraint, bus);
+            shadow_price.times_factor(factor).0
+        })
+        .sum();
+    CongestionPrice(price)
 }

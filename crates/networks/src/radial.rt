@@ -1,7 +1,8 @@
 // A network that is a tree: each bus but the root hangs from an upper bus of smaller number.
 ghost use Rattle.std.specs.Prelude.{◌+◌, ◌<◌, ◌≤◌, length};
 ghost use Rattle.networks.specs.Descent.{Falling};
-ghost use Rattle.networks.specs.Limits.{most_buses, most_constraints};
+ghost use Rattle.quantities.specs.Limits.{most_buses};
+ghost use Rattle.networks.specs.Limits.{most_constraints};
 ghost use Rattle.networks.specs.Radials.{radial_meaning, ConstraintsWithin};
 ghost use Rattle.networks.specs.RadialLimits.{price_most, price_past};
 ghost use Rattle.std.proofs.Common.{rules};
@@ -17,13 +18,13 @@ use quantities::{Factor, ShadowPrice};
 
 #[derive(Drop)]
 pub struct Radial {
-    // entry k is the upper bus of bus k + 1
+    // entry k is the upper bus of bus k + 1. Paths are followed upward alone; in lists of lower buses they would be searched
     uppers: Vec<u16>,
     constraints: Vec<RadialConstraint>,
     ghost buses_most: { length uppers.items + 1 ≤ most_buses },
     ghost falling: { Falling uppers.items },
     ghost constraints_most: { length constraints.items ≤ most_constraints },
-    ghost constraints_within: { ConstraintsWithin (length uppers.items + 1) constraints.items (length constraints.items) },
+    ghost constraints_within: { ConstraintsWithin (length uppers.items + 1) constraints.items },
 }
 
 // The factor of a constraint at its bus and at each descendant: all that is withdrawn there comes over the line.
@@ -59,25 +60,17 @@ impl Network for Radial {
     }
 
     fn shadow_price(&self, constraint: u8) -> ShadowPrice {
-        if usize::from(constraint) < self.constraints.len() {
-            self.constraints[usize::from(constraint)].price
-        } else {
-            ShadowPrice(0)
-        }
+        self.constraints
+            .get(usize::from(constraint))
+            .map_or(ShadowPrice(0), |line| line.price)
     }
 
     fn factor(&self, constraint: u8, bus: u16) -> Factor {
-        if usize::from(constraint) < self.constraints.len()
-            && bus < self.buses()
-            && is_under(
-                self.uppers.as_slice(),
-                self.constraints[usize::from(constraint)].bus,
-                bus,
-            )
-        {
-            FACTOR_UNDER
-        } else {
-            Factor(0)
+        match self.constraints.get(usize::from(constraint)) {
+            Some(line) if bus < self.buses() && is_under(&self.uppers, line.bus, bus) => {
+                FACTOR_UNDER
+            }
+            _ => Factor(0),
         }
     }
 }

@@ -1,6 +1,7 @@
 // A network that is given as a table of shadow prices and factors.
 ghost use Rattle.std.specs.Prelude.{◌≡◌, ◌*◌, ◌≤◌, length};
-ghost use Rattle.networks.specs.Limits.{most_buses, most_constraints};
+ghost use Rattle.quantities.specs.Limits.{most_buses};
+ghost use Rattle.networks.specs.Limits.{most_constraints};
 ghost use Rattle.networks.specs.Meaning.{SpreadMost};
 ghost use Rattle.networks.specs.Tables.{table_meaning, PricesWithin, FactorsWithin};
 ghost use Rattle.networks.specs.TableLimits.{price_most, factor_most, price_past};
@@ -15,7 +16,8 @@ use quantities::{Factor, ShadowPrice};
 pub struct Table {
     buses: u16,
     prices: Vec<ShadowPrice>,
-    // constraint by constraint: the factor of constraint j at bus i stands at j × buses + i
+    // constraint by constraint: the factor of constraint j at bus i stands at j × buses + i. The list stays flat, as the
+    // caller gives it: a list for each constraint would be an allocation and a length to check for each
     factors: Vec<Factor>,
     ghost a_bus: { 1 ≤ buses },
     ghost buses_most: { buses ≤ most_buses },
@@ -56,18 +58,19 @@ impl Network for Table {
     }
 
     fn shadow_price(&self, constraint: u8) -> ShadowPrice {
-        if usize::from(constraint) < self.prices.len() {
-            self.prices[usize::from(constraint)]
-        } else {
-            ShadowPrice(0)
-        }
+        self.prices
+            .get(usize::from(constraint))
+            .copied()
+            .unwrap_or(ShadowPrice(0))
     }
 
     fn factor(&self, constraint: u8, bus: u16) -> Factor {
-        if usize::from(constraint) < self.prices.len() && bus < self.buses {
-            self.factors[usize::from(constraint) * usize::from(self.buses) + usize::from(bus)]
-        } else {
-            Factor(0)
-        }
+        self.factors
+            .chunks_exact(usize::from(self.buses))
+            .nth(usize::from(constraint))
+            .unwrap_or(&[])
+            .get(usize::from(bus))
+            .copied()
+            .unwrap_or(Factor(0))
     }
 }

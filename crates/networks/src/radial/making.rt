@@ -1,13 +1,14 @@
 // Making a radial network: it is weighed against the limits first, and then made.
-ghost use Rattle.std.specs.Prelude.{◌+◌, length, Decides};
+ghost use Rattle.std.specs.Prelude.{◌+◌, ◌↔◌, IsTrue};
 ghost use Rattle.refusals.specs.Answers.{Answered, Clear};
 ghost use Rattle.networks.specs.Descent.{Falling};
 ghost use Rattle.networks.specs.Radials.{RadialTells, RadialRefused, RadialWithin, ConstraintsWithin, ConstraintWithin};
 ghost use Rattle.networks.specs.contracts.radial.RadialNetwork.TheImpl.{ghosts as as_network};
 
-use crate::network::{MAX_BUSES, MAX_CONSTRAINTS, MAX_SHADOW_PRICE};
+use crate::network::{MAX_CONSTRAINTS, MAX_SHADOW_PRICE};
 use crate::radial::Radial;
 use crate::radial::constraint::RadialConstraint;
+use quantities::MAX_BUSES;
 use refusals::Cause;
 
 impl Radial {
@@ -15,11 +16,10 @@ impl Radial {
     pub fn weigh(uppers: &[u16], constraints: &[RadialConstraint]) -> Result<(), Cause>
         ensures { Answered (RadialRefused uppers.now constraints.now) result }
     {
-        if within_limits(uppers, constraints) {
-            Ok(())
-        } else {
-            Err(Cause::OutsideLimits)
+        if !within_limits(uppers, constraints) {
+            return Err(Cause::OutsideLimits);
         }
+        Ok(())
     }
 
     // The network of what was weighed. Entry k of `uppers` is the upper bus of bus k + 1.
@@ -35,7 +35,7 @@ impl Radial {
 }
 
 fn within_limits(uppers: &[u16], constraints: &[RadialConstraint]) -> bool
-    ensures { Decides result (RadialWithin uppers.now constraints.now) }
+    ensures { IsTrue result ↔ RadialWithin uppers.now constraints.now }
 {
     uppers.len() < usize::from(MAX_BUSES)
         && uppers_smaller(uppers)
@@ -44,31 +44,26 @@ fn within_limits(uppers: &[u16], constraints: &[RadialConstraint]) -> bool
 }
 
 fn uppers_smaller(uppers: &[u16]) -> bool
-    ensures { Decides result (Falling uppers.now) }
+    ensures { IsTrue result ↔ Falling uppers.now }
 {
-    for (k, upper) in uppers.iter().enumerate() {
-        if usize::from(*upper) > k {
-            return false;
-        }
-    }
-    true
+    uppers
+        .iter()
+        .enumerate()
+        .all(|(k, upper)| usize::from(*upper) <= k)
 }
 
+// Whether each constraint is within the limits of a network whose last bus is `last`.
 fn constraints_within(last: usize, constraints: &[RadialConstraint]) -> bool
-    ensures { Decides result (ConstraintsWithin (last + 1) constraints.now (length constraints.now)) }
+    ensures { IsTrue result ↔ (ConstraintsWithin (last + 1) constraints.now) }
 {
-    for constraint in constraints {
-        if !constraint_within(last, *constraint) {
-            return false;
-        }
-    }
-    true
+    constraints
+        .iter()
+        .all(|constraint| constraint_within(last, *constraint))
 }
 
 fn constraint_within(last: usize, constraint: RadialConstraint) -> bool
-    ensures { Decides result (ConstraintWithin (last + 1) constraint) }
+    ensures { IsTrue result ↔ (ConstraintWithin (last + 1) constraint) }
 {
-    constraint.bus >= 1
-        && usize::from(constraint.bus) <= last
+    (1..=last).contains(&usize::from(constraint.bus))
         && constraint.price.0.unsigned_abs() <= MAX_SHADOW_PRICE
 }

@@ -1,13 +1,12 @@
 // Making a table: it is weighed against the limits first, and then made.
-ghost use Rattle.std.specs.Prelude.{◌≡◌, ◌*◌, ◌≤◌, length, Decides};
+ghost use Rattle.std.specs.Prelude.{◌≡◌, ◌/◌, ◌≤◌, ◌↔◌, length, IsTrue};
 ghost use Rattle.refusals.specs.Answers.{Answered, Clear};
-ghost use Rattle.networks.specs.Limits.{most_buses, most_constraints};
 ghost use Rattle.networks.specs.Tables.{table_meaning, TableRefused, TableWithin, PricesWithin, FactorsWithin, RowsClose, Close, CloseTo};
 ghost use Rattle.networks.specs.contracts.table.TableNetwork.TheImpl.{ghosts as as_network};
 
-use crate::network::{MAX_BUSES, MAX_CONSTRAINTS, MAX_FACTOR, MAX_SHADOW_PRICE, MAX_SPREAD};
+use crate::network::{MAX_CONSTRAINTS, MAX_FACTOR, MAX_SHADOW_PRICE, MAX_SPREAD};
 use crate::table::Table;
-use quantities::{Factor, ShadowPrice};
+use quantities::{Factor, MAX_BUSES, ShadowPrice};
 use refusals::Cause;
 
 impl Table {
@@ -15,11 +14,10 @@ impl Table {
     pub fn weigh(buses: u16, prices: &[ShadowPrice], factors: &[Factor]) -> Result<(), Cause>
         ensures { Answered (TableRefused buses prices.now factors.now) result }
     {
-        if within_limits(buses, prices, factors) {
-            Ok(())
-        } else {
-            Err(Cause::OutsideLimits)
+        if !within_limits(buses, prices, factors) {
+            return Err(Cause::OutsideLimits);
         }
+        Ok(())
     }
 
     // The table of what was weighed. The factors stand constraint by constraint, with one for each bus.
@@ -36,73 +34,53 @@ impl Table {
 }
 
 fn within_limits(buses: u16, prices: &[ShadowPrice], factors: &[Factor]) -> bool
-    ensures { Decides result (TableWithin buses prices.now factors.now) }
+    ensures { IsTrue result ↔ TableWithin buses prices.now factors.now }
 {
-    buses >= 1
-        && buses <= MAX_BUSES
+    (1..=MAX_BUSES).contains(&buses)
         && prices.len() <= usize::from(MAX_CONSTRAINTS)
         && prices_within(prices)
         && factors.len() == prices.len() * usize::from(buses)
         && factors_within(factors)
-        && rows_close(usize::from(buses), prices.len(), factors)
+        && rows_close(usize::from(buses), factors)
 }
 
 fn prices_within(prices: &[ShadowPrice]) -> bool
-    ensures { Decides result (PricesWithin prices.now) }
+    ensures { IsTrue result ↔ PricesWithin prices.now }
 {
-    for price in prices {
-        if price.0.unsigned_abs() > MAX_SHADOW_PRICE {
-            return false;
-        }
-    }
-    true
+    prices
+        .iter()
+        .all(|price| price.0.unsigned_abs() <= MAX_SHADOW_PRICE)
 }
 
+// Beside `prices_within`, since one function for both would take the size as a closure and be longer than the two.
 fn factors_within(factors: &[Factor]) -> bool
-    ensures { Decides result (FactorsWithin factors.now) }
+    ensures { IsTrue result ↔ FactorsWithin factors.now }
 {
-    for factor in factors {
-        if factor.0.unsigned_abs() > MAX_FACTOR {
-            return false;
-        }
-    }
-    true
+    factors
+        .iter()
+        .all(|factor| factor.0.unsigned_abs() <= MAX_FACTOR)
 }
 
-// Whether the factors of each constraint lie close together.
-fn rows_close(buses: usize, constraints: usize, factors: &[Factor]) -> bool
-    requires few { constraints ≤ most_constraints }
-    requires small { buses ≤ most_buses }
-    requires whole { length factors.now ≡ constraints * buses }
-    ensures { Decides result (RowsClose buses constraints factors.now) }
+// Whether the factors of each constraint lie close together. A row has a factor for each bus.
+fn rows_close(buses: usize, factors: &[Factor]) -> bool
+    requires a_bus { 1 ≤ buses }
+    ensures { IsTrue result ↔ (RowsClose buses (length factors.now / buses) factors.now) }
 {
-    for j in 0..constraints {
-        let first = j * buses;
-        if !close(&factors[first..first + buses]) {
-            return false;
-        }
-    }
-    true
+    factors.chunks_exact(buses).all(close)
 }
 
+// Whether any two factors of a row lie close together.
+#[tactic(auto, unfolding(crate::specs::Tables::Close))]
 fn close(row: &[Factor]) -> bool
-    ensures { Decides result (Close row.now) }
+    ensures { IsTrue result ↔ Close row.now }
 {
-    for factor in row {
-        if !close_to(*factor, row) {
-            return false;
-        }
-    }
-    true
+    row.iter().all(|factor| close_to(*factor, row))
 }
 
+#[tactic(auto, unfolding(crate::specs::Tables::CloseTo))]
 fn close_to(factor: Factor, row: &[Factor]) -> bool
-    ensures { Decides result (CloseTo factor.0 row.now) }
+    ensures { IsTrue result ↔ CloseTo factor.0 row.now }
 {
-    for other in row {
-        if factor.distance(*other) > MAX_SPREAD {
-            return false;
-        }
-    }
-    true
+    row.iter()
+        .all(|other| factor.distance(*other) <= MAX_SPREAD)
 }

@@ -1,28 +1,23 @@
-use Rattle.std.proofs.Common.{◌≡◌, ◌*ℤ◌, ap, ◌∙◌, arith}
-use borrow.Author.Differences.{ints}
+use Rattle.std.proofs.Common.{◌≡◌, ℕ, pos, ◌+ℤ◌, ◌*ℤ◌, to_z-of_z, ◌∙◌, arith, rules}
+use mir.Syntax.{w64}
+use Rattle.std.proofs.lemmas.Iterator.{YieldsList-from_map, YieldsList-from_range}
+use Rattle.std.proofs.lemmas.Iterator.Adapters.{total_from_yields_List}
 use Rattle.quantities.specs.Sums.{sum}
-use Rattle.quantities.proofs.SumLaws.{sum_more}
+use Rattle.quantities.proofs.Bounds.{fits_by}
 use Rattle.networks.proofs.Limits.{part_within, parts_within}
+use Rattle.networks.proofs.Totals.{fold_all, runs_fit}
 use Rattle.networks.proofs.prices.congestion_price.Goals as goal
 
-pub plus-price-requires : goal.plus-price-requires
-plus-price-requires g c =
+pub sum-price-requires-clause-fits : goal.sum-price-requires-clause-fits
+sum-price-requires-clause-fits g c =
     let network = c.args.network.now in
     let w = g.N.Network.meaning network in
     let met = g.met.N.Network in
-    let j = c.loop-j.j in
     let bus = c.args.bus in
-    let part : c.times_factor-part.result.0 ≡ w.price j *ℤ w.factor j bus = cc in
-    let one = part_within w.price w.factor (met.price_most network) (met.factor_most network) j bus in
-    let before = parts_within w.price w.factor (met.price_most network) (met.factor_most network) j bus in
+    let m = w.constraints in
+    let part = λ (j : ℕ). w.price j *ℤ w.factor j bus in
     let few = met.constraints_most network in
-    omega (arith, ints)
-
-pub loop-j-preserved : goal.loop-j-preserved
-loop-j-preserved g c =
-    let w = g.N.Network.meaning c.args.network.now in
-    let more = sum_more c.loop-j.j (λ j. w.price j *ℤ w.factor j c.args.bus) in
-    cc
+    runs_fit m part (YieldsList-from_map _ part (YieldsList-from_range 0 _ m c.map.ensures.source (omega arith)) c.map.ensures.closure (λ x r q k. search rules)) 1000000000 (part_within w.price w.factor (met.price_most network) (met.factor_most network) bus) (omega arith)
 
 pub returns : goal.returns
 returns g c =
@@ -30,8 +25,11 @@ returns g c =
     let w = g.N.Network.meaning network in
     let met = g.met.N.Network in
     let bus = c.args.bus in
-    let end : c.loop-j.j ≡ w.constraints = omega arith in
-    let value = c.loop-j.invariant ∙ ap (λ m. sum m (λ j. w.price j *ℤ w.factor j bus)) end in
-    let all = parts_within w.price w.factor (met.price_most network) (met.factor_most network) w.constraints bus in
+    let m = w.constraints in
+    let part = λ (j : ℕ). w.price j *ℤ w.factor j bus in
     let few = met.constraints_most network in
-    record { value = value; bound = omega (arith, ints) }
+    let total : c.sum-price.result ≡ sum m part =
+    total_from_yields_List ◌+ℤ◌ (pos 0) _ c.sum-price.ensures.ran (YieldsList-from_map _ part (YieldsList-from_range 0 _ m c.map.ensures.source (omega arith)) c.map.ensures.closure (λ x r q k. search rules)) ∙ fold_all m part in
+    let most = parts_within w.price w.factor (met.price_most network) (met.factor_most network) m bus in
+    let exact = to_z-of_z (fits_by w64 c.sum-price.result (rw total (omega arith))) in
+    record { value = exact ∙ total; bound = rw (exact, total) (omega arith) }

@@ -1,15 +1,14 @@
 use Rattle.std.proofs.Common.{vec_items}
-use Rattle.networks.proofs.Refused.{clear_within}
-use Rattle.networks.specs.RadialLimits.{decided, tells}
+use Rattle.networks.specs.RadialLimits.{within, tells}
 use Rattle.networks.proofs.radial.Radial.new.Goals as goal
 
 pub invariant_of-result : goal.invariant_of-result
 invariant_of-result c =
-    let w = clear_within _ _ (decided (vec_items c.args.uppers) (vec_items c.args.constraints)) c.requires in
+    let w = within (vec_items c.args.uppers) (vec_items c.args.constraints) c.requires in
     record { buses_most = w.buses; falling = w.falling; constraints_most = w.constraints; constraints_within = w.each }
 
 pub returns : goal.returns
 returns c =
     let us = vec_items c.args.uppers in
     let cs = vec_items c.args.constraints in
-    tells us cs (clear_within _ _ (decided us cs) c.requires).falling
+    tells us cs (within us cs c.requires).falling

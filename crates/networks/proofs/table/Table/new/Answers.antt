@@ -1,6 +1,5 @@
 use Rattle.std.proofs.Common.{vec_items}
-use Rattle.networks.proofs.Refused.{clear_within}
-use Rattle.networks.specs.TableLimits.{decided, spread_most}
+use Rattle.networks.specs.TableLimits.{within, spread_most}
 use Rattle.networks.proofs.table.Table.new.Goals as goal
 
 pub invariant_of-result : goal.invariant_of-result
@@ -8,7 +7,7 @@ invariant_of-result c =
     let n = c.args.buses in
     let ps = vec_items c.args.prices in
     let fs = vec_items c.args.factors in
-    let w = clear_within _ _ (decided n ps fs) c.requires in
+    let w = within n ps fs c.requires in
     record {
       a_bus = w.a_bus;
       buses_most = w.buses;

@@ -1,11 +1,12 @@
-use Rattle.std.proofs.Common.{◌≡◌, ℕ, ◌+◌, ◌-◌, ◌*◌, take, drop, subst, arith}
-use Rattle.std.proofs.lemmas.Bool.{false≢true}
+use Rattle.std.proofs.Common.{⊎_elim, rules}
+use Rattle.std.proofs.lemmas.Bool.{cases_Bool}
 use Rattle.networks.specs.Tables.{Close}
+use Rattle.networks.proofs.Rows.{each_row, some_row}
 use Rattle.networks.proofs.table.making.rows_close.Goals as goal
 
-pub returns-then-not-close : goal.returns-then-not-close
-returns-then-not-close c =
-    let n = c.args.buses in
-    let j = c.loop-j.j in
-    let wide : n ≡ j * n + n - j * n = omega arith in
-    (λ e. absurd (false≢true e), λ h. c.if-not-close.ensures.1 (subst (λ (k : ℕ). Close (take k (drop (j * n) c.args.factors.now))) wide (h j c.loop-j-test.true)))
+pub returns : goal.returns
+returns c =
+    let run = c.all.ensures.runs in
+    let made = c.chunks_exact.ensures in
+    let chunks = rw (run.1, made.rest, made.size) at (made.runs run.0 run.0.seen) c.requires.a_bus in
+    (λ t. let all = rw t at run.2 in each_row run.0 _ _ Close chunks all.0 (search rules), λ h. ⊎_elim (λ t. t) (λ f. let some = rw f at run.2 in absurd (some_row run.0 _ _ Close c.requires.a_bus chunks (search rules) h)) (cases_Bool c.all.result))
