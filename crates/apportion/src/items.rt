@@ -15,14 +15,14 @@ pub trait WeightedItem {
 }
 
 // A bus, with its weight in the allocation of a constraint's congestion.
-#[derive(Clone, Copy)]
+#[derive(Clone, Copy, PartialEq, Eq, Debug)]
 pub struct LoadBus {
     pub bus: u16,
     pub weight: u64,
 }
 
 // A bus of an area, with its share of the area's load in hundredths of a percent.
-#[derive(Clone, Copy)]
+#[derive(Clone, Copy, PartialEq, Eq, Debug)]
 pub struct AreaMember {
     pub bus: u16,
     pub share: u16,
