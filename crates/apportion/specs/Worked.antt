@@ -1,7 +1,6 @@
 -- Splits that follow from the definitions. Assumes nothing.
-use Rattle.std.specs.Prelude.{◌≡◌, [], ◌∷◌, map, pos, negsuc}
-use Rattle.quantities.specs.declared.kinds.Megawatts.{Megawatts}
-use Rattle.quantities.specs.Views.{cents}
+use Rattle.std.specs.Prelude.{◌≡◌, [], ◌∷◌, pos, negsuc}
+use Rattle.quantities.specs.Views.{cents, megawatts}
 use Rattle.apportion.specs.declared.worked.WorkedSplits.{WorkedSplits}
 use Rattle.apportion.specs.Split.{shares}
 
@@ -17,4 +16,4 @@ pub record WorkedRows (w : WorkedSplits) : Type 0 where
   pub hundred : cents w.hundred ≡ pos 33 ∷ pos 33 ∷ pos 34 ∷ []
   pub hundred_below_nought : cents w.hundred_below_nought ≡ negsuc 33 ∷ negsuc 32 ∷ negsuc 32 ∷ []
   pub six : cents w.six ≡ pos 1 ∷ pos 2 ∷ pos 1 ∷ pos 2 ∷ []
-  pub area : map (λ (m : Megawatts). m.0) w.area ≡ pos 3 ∷ pos 3 ∷ pos 4 ∷ []
+  pub area : megawatts w.area ≡ pos 3 ∷ pos 3 ∷ pos 4 ∷ []

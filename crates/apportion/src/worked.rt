@@ -1,5 +1,7 @@
 // Splits and carried cents worked out by hand.
 ghost use Rattle.std.specs.Prelude.{◌≡◌, [], ◌∷◌, map, pos, negsuc, MatchResult};
+ghost use Rattle.quantities.specs.Views.{cents, megawatts};
+ghost use Rattle.apportion.specs.Split.{shares};
 ghost use Rattle.apportion.specs.Worked.{WorkedRows, WorkedSplitsDefined};
 ghost use Rattle.apportion.specs.WorkedCents.{WorkedCentsDefined, WorkedCentsRows};
 
@@ -24,14 +26,36 @@ pub fn worked_splits() -> Result<WorkedSplits, Cause>
     ensures figures { MatchResult result WorkedRows (λ _. ⊥) }
     ensures defined { WorkedSplitsDefined }
 {
-    let three = [LoadBus { bus: 0, weight: 1 }; 3];
-    let mut hundred = [Cents(0); 3];
-    split(Cents(100), &three, &mut hundred)?;
-    let mut hundred_below_nought = [Cents(0); 3];
-    split(Cents(-100), &three, &mut hundred_below_nought)?;
-    let four = [LoadBus { bus: 0, weight: 1 }; 4];
-    let mut six = [Cents(0); 4];
-    split(Cents(6), &four, &mut six)?;
+    Ok(WorkedSplits {
+        hundred: over_three(Cents(100))?,
+        hundred_below_nought: over_three(Cents(-100))?,
+        six: over_four(Cents(6))?,
+        area: over_members(Megawatts(10))?,
+    })
+}
+
+// An amount over three equal weights.
+fn over_three(amount: Cents) -> Result<[Cents; 3], Cause>
+    ensures { MatchResult result (λ row. cents row ≡ shares amount.0 (1 ∷ 1 ∷ 1 ∷ [])) (λ _. ⊥) }
+{
+    let mut row = [Cents(0); 3];
+    split(amount, &[LoadBus { bus: 0, weight: 1 }; 3], &mut row)?;
+    Ok(row)
+}
+
+// An amount over four equal weights.
+fn over_four(amount: Cents) -> Result<[Cents; 4], Cause>
+    ensures { MatchResult result (λ row. cents row ≡ shares amount.0 (1 ∷ 1 ∷ 1 ∷ 1 ∷ [])) (λ _. ⊥) }
+{
+    let mut row = [Cents(0); 4];
+    split(amount, &[LoadBus { bus: 0, weight: 1 }; 4], &mut row)?;
+    Ok(row)
+}
+
+// An M over shares of 33.33, 33.33 and 33.34 percent.
+fn over_members(amount: Megawatts) -> Result<[Megawatts; 3], Cause>
+    ensures { MatchResult result (λ row. megawatts row ≡ shares amount.0 (3333 ∷ 3333 ∷ 3334 ∷ [])) (λ _. ⊥) }
+{
     let members = [
         AreaMember {
             bus: 0,
@@ -46,14 +70,9 @@ pub fn worked_splits() -> Result<WorkedSplits, Cause>
             share: 3_334,
         },
     ];
-    let mut area = [Megawatts(0); 3];
-    split(Megawatts(10), &members, &mut area)?;
-    Ok(WorkedSplits {
-        hundred,
-        hundred_below_nought,
-        six,
-        area,
-    })
+    let mut row = [Megawatts(0); 3];
+    split(amount, &members, &mut row)?;
+    Ok(row)
 }
 
 // Exact amounts, and the cents that they are carried to.

@@ -2,7 +2,6 @@
 use Rattle.std.specs.Prelude.{◌≡◌, ℕ, ◌+◌, ◌<◌, ◌≤◌, ◌≢◌, List, [], ◌∷◌, map, length, ℤ, Ok, Err, Result, slice_index_or}
 use Rattle.refusals.specs.declared.Cause.{Cause}
 use Rattle.refusals.specs.declared.Cause.TheVariants.{BusOutOfRange, LedgerFull, AreaNotWhole}
-use Rattle.quantities.specs.declared.kinds.Megawatts.{Megawatts}
 use Rattle.apportion.specs.Split.{whole}
 use Rattle.apportion.specs.declared.items.AreaMember.{AreaMember}
 use Rattle.ledgers.specs.Book.{Book}
@@ -23,10 +22,6 @@ loads who [] [] = []
 loads who [] (z ∷ zs) = []
 loads who (m ∷ ms) [] = []
 loads who (m ∷ ms) (z ∷ zs) = record { participant = who; class = Load; bus = m.bus; megawatts = record { 0 = z } } ∷ loads who ms zs
-
--- the numbers in a row of megawatts
-abbrev pub units : List Megawatts → List ℤ
-units row = map (λ (x : Megawatts). x.0) row
 
 -- ---- what is weighed
 

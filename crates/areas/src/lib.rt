@@ -6,7 +6,8 @@ ghost use Rattle.apportion.specs.Split.{shares, whole};
 ghost use Rattle.ledgers.specs.Book.{SameSlice, book, holding};
 ghost use Rattle.ledgers.specs.Limits.{most_records};
 ghost use Rattle.refusals.specs.Answers.{Answered};
-ghost use Rattle.areas.specs.Areas.{AreaRefused, MembersWeighed, SharesWeighed, loads, shares_by, units};
+ghost use Rattle.areas.specs.Areas.{AreaRefused, MembersWeighed, SharesWeighed, loads, shares_by};
+ghost use Rattle.quantities.specs.Views.{megawatts};
 
 use apportion::{AreaMember, split, weight_sum};
 use ledgers::{Ledger, MAX_RECORDS};
@@ -103,7 +104,7 @@ impl<'a> AreaLoad<'a> {
     // Splits the M over the members by their shares, one place of the row for each.
     fn share_out(&self, row: &mut [Megawatts])
         requires { length row.old ≡ length self.now.members.now }
-        ensures { units row.new ≡ shares (pos self.now.tenths) (shares_by self.now.members.now) }
+        ensures { megawatts row.new ≡ shares (pos self.now.tenths) (shares_by self.now.members.now) }
     {
         split(Megawatts::withdrawal(self.tenths), self.members, row).unwrap();
     }
@@ -113,7 +114,7 @@ impl<'a> AreaLoad<'a> {
         requires { length (book ledger.old).items + length self.now.members.now
             ≤ (book ledger.old).capacity }
         ensures posted { book ledger.new ≡ holding (book ledger.old) ((book ledger.old).items
-            ++ loads self.now.participant self.now.members.now (units row.now)) }
+            ++ loads self.now.participant self.now.members.now (megawatts row.now)) }
         ensures slice { SameSlice ledger.old ledger.new }
     {
         for (member, megawatts) in self.members.iter().zip(row) {

@@ -2,11 +2,12 @@ use Rattle.std.proofs.Common.{◌≡◌, ℕ, ◌⊎◌, List, [], ◌∷◌, re
 use Rattle.std.proofs.lemmas.Slice.Zip.{either_empty_from_Zip}
 use Rattle.quantities.specs.declared.kinds.Megawatts.{Megawatts}
 use Rattle.apportion.specs.declared.items.AreaMember.{AreaMember}
-use Rattle.areas.specs.Areas.{loads, units}
+use Rattle.areas.specs.Areas.{loads}
+use Rattle.quantities.specs.Views.{megawatts}
 use Rattle.areas.proofs.AreaLoad.post_parts.Goals as goal
 
 -- no load is left where the members end, or the row
-none_left : (who : ℕ) (ms : List AreaMember) (row : List Megawatts) → (ms ≡ []) ⊎ (row ≡ []) → loads who ms (units row) ≡ []
+none_left : (who : ℕ) (ms : List AreaMember) (row : List Megawatts) → (ms ≡ []) ⊎ (row ≡ []) → loads who ms (megawatts row) ≡ []
 none_left who [] [] h = refl
 none_left who [] (x ∷ row) h = refl
 none_left who (m ∷ ms) [] h = refl

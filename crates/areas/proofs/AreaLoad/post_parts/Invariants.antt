@@ -1,6 +1,7 @@
 use Rattle.std.proofs.Common.{◌≡◌, ◌+◌, ◌≤◌, ◌++◌, length}
 use Rattle.ledgers.specs.Book.{SameSlice, book, holding}
-use Rattle.areas.specs.Areas.{loads, units}
+use Rattle.areas.specs.Areas.{loads}
+use Rattle.quantities.specs.Views.{megawatts}
 use Rattle.areas.proofs.AreaLoad.post_parts.Given as goal
 
 -- there is room for the loads that are left, and with them what stands makes up the whole
@@ -14,5 +15,5 @@ invariant-loop-member l =
     record {
       room : length b.items + length left ≤ b.capacity;
       slice : SameSlice l.initial.ledger l.ledger;
-      all : holding b (b.items ++ loads who left (units parts)) ≡ holding e (e.items ++ loads who l.self.members.now (units l.row));
+      all : holding b (b.items ++ loads who left (megawatts parts)) ≡ holding e (e.items ++ loads who l.self.members.now (megawatts l.row));
     }
