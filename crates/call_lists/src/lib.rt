@@ -14,7 +14,7 @@ pub use calls::Call;
 use hours::{Hour, weigh_making};
 use positions::{BusPosition, Transaction};
 use refusals::Cause;
-use register::Answer;
+use register::{Answer, OpenPhase};
 
 // How far a list of calls went: how many were made, and whether the last of them closed the hour.
 #[derive(Clone, Copy, PartialEq, Eq)]
@@ -63,13 +63,13 @@ pub fn replay(
 
 // Makes a list of calls on an open hour, and writes the answer to each. A closing that may be taken ends the list: its place is
 // answered, and the caller goes over.
-pub fn run_calls<const PHASE: u8>(
-    hour: &mut Hour<PHASE>,
+pub fn run_calls<P: OpenPhase>(
+    hour: &mut Hour<P>,
     calls: &[Call],
     answers: &mut [Answer],
 ) -> Result<Option<usize>, Cause>
     ensures answer { Answered (WrongLength (length answers.old) (length calls.now)) result }
-    ensures run { MatchResult result (λ at. PhaseRun (register_of hour.old) (phase_of PHASE) calls.now answers.old at answers.new (register_of hour.new)) (λ _. (answers.new ≡ answers.old) × (register_of hour.new ≡ register_of hour.old)) }
+    ensures run { MatchResult result (λ at. PhaseRun (register_of hour.old) (phase_of P.closings) calls.now answers.old at answers.new (register_of hour.new)) (λ _. (answers.new ≡ answers.old) × (register_of hour.new ≡ register_of hour.old)) }
 {
     if answers.len() != calls.len() {
         return Err(Cause::RowLength);
@@ -77,13 +77,13 @@ pub fn run_calls<const PHASE: u8>(
     Ok(make_calls(hour, calls, answers))
 }
 
-fn make_calls<const PHASE: u8>(
-    hour: &mut Hour<PHASE>,
+fn make_calls<P: OpenPhase>(
+    hour: &mut Hour<P>,
     calls: &[Call],
     answers: &mut [Answer],
 ) -> Option<usize>
     requires { length answers.old ≡ length calls.now }
-    ensures { PhaseRun (register_of hour.old) (phase_of PHASE) calls.now answers.old result answers.new (register_of hour.new) }
+    ensures { PhaseRun (register_of hour.old) (phase_of P.closings) calls.now answers.old result answers.new (register_of hour.new) }
 {
     for i in 0..calls.len() {
         let Some(answer) = make_call(hour, calls[i]) else {
@@ -96,8 +96,8 @@ fn make_calls<const PHASE: u8>(
 }
 
 // Makes one call, and answers it; a closing that may be taken is left to the caller, who goes over.
-pub fn make_call<const PHASE: u8>(hour: &mut Hour<PHASE>, call: Call) -> Option<Answer>
-    ensures { Called (register_of hour.old) (phase_of PHASE) (call_of call.entry) result (register_of hour.new) }
+pub fn make_call<P: OpenPhase>(hour: &mut Hour<P>, call: Call) -> Option<Answer>
+    ensures { Called (register_of hour.old) (phase_of P.closings) (call_of call.entry) result (register_of hour.new) }
 {
     match call {
         Call::Post {

@@ -19,10 +19,9 @@ use Rattle.register.specs.declared.totals.Totals.{Totals}
 use Rattle.register.specs.Totals.{of_side, with_side, Amended}
 use Rattle.refusals.specs.Answers.{Clear}
 use Rattle.register.specs.Register.{Register, Kept, Phase, Call, Standing, stands, amend_position, amend_transaction, Holds, amend_absent, amend_total, amend_transaction_absent, amend_transaction_total, total, amends, amends_transaction, Step, took, stood, with_positions, with_transactions, in_phase, one_position, one_transaction}
-use Rattle.register.specs.Sound.{Sound}
 use Rattle.register.specs.Views.{phase_of, kept, register, Marked, Summed}
 use Rattle.register.proofs.Counted.{counts, counts_side, replaced}
-use Rattle.register.proofs.Ghosts.{Tallied, Ghosts, with_sound}
+use Rattle.register.proofs.Ghosts.{Lawful}
 use Rattle.register.proofs.Runs.{step_sound}
 use Rattle.register.proofs.Kept.{front_of, back_of, front_length, kept_set, kept_at, one_record, past_mark, below_end}
 use Rattle.register.proofs.Steps.{open_phase}
@@ -130,8 +129,8 @@ transaction_held k n t b d i x summed low high is =
 marked_set : {P : Type 0} (k : ℕ) (b : Book P) (i : ℕ) (y : P) → Marked k b → Marked k (holding b (set b.items i y))
 marked_set k b i y m = let l = length-set b.items i y in (omega arith, m.1)
 
-module _ (k n : ℕ) (t u : Totals) (b : Book BusPosition) (d : Book Transaction) (old : Tallied k n t b d) (sound : Sound (register k n b d)) (i m o : ℕ) where
-  pub amended_ghosts : {call : Call} {answer : Answer} → (x : BusPosition) (a : Side) (e : Book BusPosition) → b.mark ≤ i → i < length b.items → x ≡ get_or b.items i x → a ≡ side_of x.class → o ≡ tenths x.megawatts → Amended t a o m (Ok u) → e ≡ holding b (set b.items i (amended_position (get_or b.items i x) m)) → Step (register k n b d) call answer (register k n e d) → Ghosts k n u e d
+module _ (k n : ℕ) (t u : Totals) (b : Book BusPosition) (d : Book Transaction) (old : Lawful k n t b d) (i m o : ℕ) where
+  pub amended_ghosts : {call : Call} {answer : Answer} → (x : BusPosition) (a : Side) (e : Book BusPosition) → b.mark ≤ i → i < length b.items → x ≡ get_or b.items i x → a ≡ side_of x.class → o ≡ tenths x.megawatts → Amended t a o m (Ok u) → e ≡ holding b (set b.items i (amended_position (get_or b.items i x) m)) → Step (register k n b d) call answer (register k n e d) → Lawful k n u e d
   amended_ghosts x a e low high is side was_held new changed step =
       let amended : e ≡ holding b (set b.items i (amended_position x m)) = changed ∙ ap (λ (z : BusPosition). holding b (set b.items i (amended_position z m))) (sym is) in
       let p = phase_of k in
@@ -139,10 +138,10 @@ module _ (k n : ℕ) (t u : Totals) (b : Book BusPosition) (d : Book Transaction
       let y = amended_position x m in
       let v = with_side t c (of_side t c - tenths x.megawatts + m) in
       let new' = subst (λ (q : ℕ). Amended t c q m (Ok u)) was_held (subst (λ (q : Side). Amended t q o m (Ok u)) side new) in
-      let in_total = held k n t b d i x old.1.1.0 low high is in
+      let in_total = held k n t b d i x old.summed low high is in
       let summed : Summed v (register k n (holding b (set b.items i y)) d) p = λ s.
       let r = replaced t c s (tenths x.megawatts) m in_total in
-      let was = old.1.1.0 s in
+      let was = old.summed s in
       let f = one_position p s in
       let then = ap (count_of f) (kept_at p b i x low high is) in
       let now = ap (count_of f) (kept_set p b i y low high) in
@@ -151,21 +150,24 @@ module _ (k n : ℕ) (t u : Totals) (b : Book BusPosition) (d : Book Transaction
       let three = counts p (one_if_side c s * tenths x.megawatts) in
       let four = counts p (one_if_side c s * m) in
       omega arith in
-      let all : Tallied k n v (holding b (set b.items i y)) d =
-      (old.0, ((marked_set k b i y old.1.0.0, old.1.0.1), (summed, old.1.1.1))) in
-      with_sound k n u e d (subst (λ (q : Book BusPosition). Tallied k n u q d) (sym amended) (subst (λ (q : Totals). Tallied k n q (holding b (set b.items i y)) d) (sym new'.1) all)) (step_sound step sound)
+      record {
+        marked = rw amended (marked_set k b i y old.marked.0, old.marked.1);
+        summed = rw (new'.1, amended) summed;
+        sized = rw amended old.sized;
+        sound = step_sound step old.sound;
+      }
 
-  pub amended_transaction_ghosts : {call : Call} {answer : Answer} → (x : Transaction) (e : Book Transaction) → d.mark ≤ i → i < length d.items → x ≡ get_or d.items i x → o ≡ tenths x.megawatts → Amended t Transacting o m (Ok u) → e ≡ holding d (set d.items i (amended_transaction (get_or d.items i x) m)) → Step (register k n b d) call answer (register k n b e) → Ghosts k n u b e
+  pub amended_transaction_ghosts : {call : Call} {answer : Answer} → (x : Transaction) (e : Book Transaction) → d.mark ≤ i → i < length d.items → x ≡ get_or d.items i x → o ≡ tenths x.megawatts → Amended t Transacting o m (Ok u) → e ≡ holding d (set d.items i (amended_transaction (get_or d.items i x) m)) → Step (register k n b d) call answer (register k n b e) → Lawful k n u b e
   amended_transaction_ghosts x e low high is was_held new changed step =
       let amended : e ≡ holding d (set d.items i (amended_transaction x m)) = changed ∙ ap (λ (z : Transaction). holding d (set d.items i (amended_transaction z m))) (sym is) in
       let p = phase_of k in
       let y = amended_transaction x m in
       let v = with_side t Transacting (of_side t Transacting - tenths x.megawatts + m) in
       let new' = subst (λ (q : ℕ). Amended t Transacting q m (Ok u)) was_held new in
-      let in_total = transaction_held k n t b d i x old.1.1.0 low high is in
+      let in_total = transaction_held k n t b d i x old.summed low high is in
       let summed : Summed v (register k n b (holding d (set d.items i y))) p = λ s.
       let r = replaced t Transacting s (tenths x.megawatts) m in_total in
-      let was = old.1.1.0 s in
+      let was = old.summed s in
       let f = one_transaction p s in
       let then = ap (count_of f) (kept_at p d i x low high is) in
       let now = ap (count_of f) (kept_set p d i y low high) in
@@ -174,6 +176,9 @@ module _ (k n : ℕ) (t u : Totals) (b : Book BusPosition) (d : Book Transaction
       let three = counts p (one_if_side Transacting s * tenths x.megawatts) in
       let four = counts p (one_if_side Transacting s * m) in
       omega arith in
-      let all : Tallied k n v b (holding d (set d.items i y)) =
-      (old.0, ((old.1.0.0, marked_set k d i y old.1.0.1), (summed, old.1.1.1))) in
-      with_sound k n u b e (subst (λ (q : Book Transaction). Tallied k n u b q) (sym amended) (subst (λ (q : Totals). Tallied k n q b (holding d (set d.items i y))) (sym new'.1) all)) (step_sound step sound)
+      record {
+        marked = rw amended (old.marked.0, marked_set k d i y old.marked.1);
+        summed = rw (new'.1, amended) summed;
+        sized = rw amended old.sized;
+        sound = step_sound step old.sound;
+      }

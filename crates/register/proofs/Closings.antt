@@ -16,10 +16,9 @@ use Rattle.register.specs.declared.totals.Totals.{Totals}
 use Rattle.register.specs.Totals.{of_side}
 use Rattle.refusals.specs.Answers.{Clear, First}
 use Rattle.register.specs.Register.{Register, Kept, Phase, day_ahead, real_time, in_day_ahead, in_real_time, close, Holds, close_unbalanced, total, closes, Step, took, stood, with_positions, with_transactions, with_closings, in_phase, one_position, one_transaction}
-use Rattle.register.specs.Sound.{Sound}
 use Rattle.register.specs.Views.{phase_of, kept, register, Summed}
 use Rattle.register.specs.Weighed.{MakingRefused, no_bus, many_buses, many_positions, many_transactions}
-use Rattle.register.proofs.Ghosts.{Tallied, Ghosts, with_sound}
+use Rattle.register.proofs.Ghosts.{Lawful}
 use Rattle.register.proofs.Runs.{step_sound, fresh_sound}
 use Rattle.register.proofs.Steps.{open_phase}
 
@@ -49,12 +48,14 @@ module _ (n rooms roomt : ℕ) where
   making_clear some few small short c (many_positions h) = omega arith
   making_clear some few small short c (many_transactions h) = omega arith
 
-  pub new_ghosts : (u : Totals) (e : Book BusPosition) (f : Book Transaction) → Clear (MakingRefused n rooms roomt) → e ≡ empty BusPosition rooms → f ≡ empty Transaction roomt → u ≡ none → Ghosts 0 n u e f
+  pub new_ghosts : (u : Totals) (e : Book BusPosition) (f : Book Transaction) → Clear (MakingRefused n rooms roomt) → e ≡ empty BusPosition rooms → f ≡ empty Transaction roomt → u ≡ none → Lawful 0 n u e f
   new_ghosts u e f clear p q z =
-      let all : Tallied 0 n none (empty BusPosition rooms) (empty Transaction roomt) =
-      (omega arith, (((omega arith, λ x. refl), (omega arith, λ x. refl)), ((λ s. let y = none_side s in omega arith), (at_most rooms 4096 (λ l. clear OutsideLimits (many_positions l)), at_most roomt 4096 (λ l. clear OutsideLimits (many_transactions l)))))) in
-      let whole = with_sound 0 n none (empty BusPosition rooms) (empty Transaction roomt) all (fresh_sound n rooms roomt) in
-      subst (λ (x : Totals). Ghosts 0 n x e f) (sym z) (subst (λ (x : Book BusPosition). Ghosts 0 n none x f) (sym p) (subst (λ (x : Book Transaction). Ghosts 0 n none (empty BusPosition rooms) x) (sym q) whole))
+      record {
+        marked = rw (p, q) ((omega arith, λ x. refl), (omega arith, λ x. refl));
+        summed = rw (z, p, q) (λ s. let y = none_side s in omega arith);
+        sized = rw (p, q) (at_most rooms 4096 (λ l. clear OutsideLimits (many_positions l)), at_most roomt 4096 (λ l. clear OutsideLimits (many_transactions l)));
+        sound = rw (p, q) (fresh_sound n rooms roomt);
+      }
 
 -- ---- weighing
 
@@ -98,8 +99,8 @@ no_transaction : (s : Side) (xs : List Transaction) → count_of (one_transactio
 no_transaction s [] = refl
 no_transaction s (x ∷ xs) = let rest = no_transaction s xs in omega arith
 
-pub over_ghosts : (n : ℕ) (t u : Totals) (b e : Book BusPosition) (d f : Book Transaction) → Tallied 0 n t b d → Sound (register 0 n b d) → e ≡ closed b → f ≡ closed d → u ≡ none → Step (register 0 n b d) close Taken (register 1 n e f) → Ghosts 1 n u e f
-over_ghosts n t u b e d f old sound p q z step =
+pub over_ghosts : (n : ℕ) (t u : Totals) (b e : Book BusPosition) (d f : Book Transaction) → Lawful 0 n t b d → e ≡ closed b → f ≡ closed d → u ≡ none → Step (register 0 n b d) close Taken (register 1 n e f) → Lawful 1 n u e f
+over_ghosts n t u b e d f old p q z step =
     let summed : Summed none (register 1 n (closed b) (closed d)) real_time = λ s.
     let none_here = none_side s in
     let one = ap (count_of (one_position real_time s)) (kept_closed b) in
@@ -107,11 +108,12 @@ over_ghosts n t u b e d f old sound p q z step =
     let three = no_position s b.items in
     let four = no_transaction s d.items in
     omega arith in
-    let new : Tallied 1 n none (closed b) (closed d) =
-    (omega arith, (((omega arith, λ x. absurd (omega arith)), (omega arith, λ x. absurd (omega arith))), (summed, old.1.1.1))) in
-    with_sound 1 n u e f
-    (subst (λ (x : Totals). Tallied 1 n x e f) (sym z) (subst (λ (x : Book BusPosition). Tallied 1 n none x f) (sym p) (subst (λ (x : Book Transaction). Tallied 1 n none (closed b) x) (sym q) new)))
-    (step_sound step sound)
+    record {
+      marked = rw (p, q) ((omega arith, λ x. absurd (omega arith)), (omega arith, λ x. absurd (omega arith)));
+      summed = rw (z, p, q) summed;
+      sized = rw (p, q) old.sized;
+      sound = step_sound step old.sound;
+    }
 
 pub over_step : (n : ℕ) (b e : Book BusPosition) (d f : Book Transaction) → Clear (Holds (register 0 n b d) day_ahead close) → e ≡ closed b → f ≡ closed d → Step (register 0 n b d) close Taken (register 1 n e f)
 over_step n b e d f clear p q =

@@ -1,7 +1,5 @@
 -- What an hour keeps to, call by call. Assumes nothing.
-use Rattle.std.proofs.Common.{◌≡◌, ℕ, ◌+◌, ◌-◌, ◌*◌, ◌<◌, List, [], ◌∷◌, ◌++◌, map, Ok, sym, ap, ◌∙◌, subst, arith}
-use mathlib.Core.Logic.{∥∥₁_elim}
-use denote.Struct.Props.{props}
+use Rattle.std.proofs.Common.{◌≡◌, ℕ, ◌+◌, ◌-◌, ◌*◌, List, [], ◌∷◌, ◌++◌, map, Ok, ap, ◌∙◌, subst, arith}
 use Rattle.std.proofs.lemmas.List.{length-append}
 use Rattle.quantities.specs.Sums.{count_of}
 use Rattle.quantities.proofs.SumLaws.{count_append, count_push}
@@ -18,7 +16,6 @@ use Rattle.register.specs.declared.totals.Totals.{Totals}
 use Rattle.register.specs.Totals.{of_side, with_side, Amended}
 use Rattle.areas.specs.Areas.{shares_by}
 use Rattle.register.specs.Register.{Call, Area, one_position, one_transaction, in_phase, area_loads, Step}
-use Rattle.register.specs.Lawful.{Lawful}
 use Rattle.register.specs.Sound.{Sound}
 use Rattle.register.specs.Views.{phase_of, kept, register, Marked, Summed, Sized}
 use Rattle.register.proofs.Kept.{kept_more}
@@ -26,30 +23,19 @@ use Rattle.register.proofs.Runs.{step_sound}
 use Rattle.register.proofs.Spread.{count_area}
 use Rattle.register.proofs.Counted.{counts, replaced}
 
--- the totals of an hour's books
-abbrev pub Tallied : ℕ → ℕ → Totals → Book BusPosition → Book Transaction → Type 0
-Tallied k n t b d = (k < 2) × ((Marked k b × Marked k d) × (Summed t (register k n b d) (phase_of k) × (Sized b × Sized d)))
-
--- the ghost field of an hour
-abbrev pub Ghosts : ℕ → ℕ → Totals → Book BusPosition → Book Transaction → Type 0
-Ghosts k n t b d = ∥ Lawful k n t b d ∥₁
-
-pub with_sound : (k n : ℕ) (t : Totals) (b : Book BusPosition) (d : Book Transaction) → Tallied k n t b d → Sound (register k n b d) → Ghosts k n t b d
-with_sound k n t b d g sound = ∣ record { phased = g.0; marked = g.1.0; summed = g.1.1.0; sized = g.1.1.1; sound = sound } ∣₁
-
--- and back: each of its parts is a fact that holds in one way only
-pub tallied_of : (k n : ℕ) (t : Totals) (b : Book BusPosition) (d : Book Transaction) → ∥ Lawful k n t b d ∥₁ → Tallied k n t b d
-tallied_of k n t b d l = ∥∥₁_elim l (hlevel props) (λ w. (w.phased, (w.marked, (w.summed, w.sized))))
-
-pub sound_of : (k n : ℕ) (t : Totals) (b : Book BusPosition) (d : Book Transaction) → ∥ Lawful k n t b d ∥₁ → Sound (register k n b d)
-sound_of k n t b d l = ∥∥₁_elim l (hlevel props) (λ w. w.sound)
+-- what an hour keeps to after k closings, with n buses, the totals t and the books of both kinds
+pub record Lawful (k n : ℕ) (t : Totals) (b : Book BusPosition) (d : Book Transaction) : Type 0 where
+  pub marked : Marked k b × Marked k d
+  pub summed : Summed t (register k n b d) (phase_of k)
+  pub sized : Sized b × Sized d
+  pub sound : Sound (register k n b d)
 
 -- a book that grows stays marked
 pub marked_more : {P : Type 0} (k : ℕ) (b : Book P) (more : List P) → Marked k b → Marked k (holding b (b.items ++ more))
 marked_more k b more m = let l = length-append b.items more in (omega arith, m.1)
 
-module _ (k n : ℕ) (t u : Totals) (b : Book BusPosition) (d : Book Transaction) (old : Tallied k n t b d) (sound : Sound (register k n b d)) where
-  pub posted_ghosts : {call : Call} {answer : Answer} → (x : BusPosition) (a : Side) (e : Book BusPosition) → a ≡ side_of x.class → Amended t a 0 (tenths x.megawatts) (Ok u) → (z : BusPosition) → z ≡ x → e ≡ holding b (b.items ++ (z ∷ [])) → Step (register k n b d) call answer (register k n e d) → Ghosts k n u e d
+module _ (k n : ℕ) (t u : Totals) (b : Book BusPosition) (d : Book Transaction) (old : Lawful k n t b d) where
+  pub posted_ghosts : {call : Call} {answer : Answer} → (x : BusPosition) (a : Side) (e : Book BusPosition) → a ≡ side_of x.class → Amended t a 0 (tenths x.megawatts) (Ok u) → (z : BusPosition) → z ≡ x → e ≡ holding b (b.items ++ (z ∷ [])) → Step (register k n b d) call answer (register k n e d) → Lawful k n u e d
   posted_ghosts x a e side new z same put step =
       let grown : e ≡ holding b (b.items ++ (x ∷ [])) = put ∙ ap (λ (y : BusPosition). holding b (b.items ++ (y ∷ []))) same in
       let p = phase_of k in
@@ -59,16 +45,19 @@ module _ (k n : ℕ) (t u : Totals) (b : Book BusPosition) (d : Book Transaction
       let new' = subst (λ (z : Side). Amended t z 0 m (Ok u)) side new in
       let summed : Summed v (register k n (holding b (b.items ++ (x ∷ []))) d) p = λ s.
       let r = replaced t c s 0 m (omega arith) in
-      let was = old.1.1.0 s in
-      let more = ap (count_of (one_position p s)) (kept_more p b (x ∷ []) old.1.0.0.0) in
+      let was = old.summed s in
+      let more = ap (count_of (one_position p s)) (kept_more p b (x ∷ []) old.marked.0.0) in
       let push = count_push (one_position p s) (kept p b) (in_phase p x) in
       let one = counts p (one_if_side c s * m) in
       omega arith in
-      let all : Tallied k n v (holding b (b.items ++ (x ∷ []))) d =
-      (old.0, ((marked_more k b (x ∷ []) old.1.0.0, old.1.0.1), (summed, old.1.1.1))) in
-      with_sound k n u e d (subst (λ (z : Book BusPosition). Tallied k n u z d) (sym grown) (subst (λ (z : Totals). Tallied k n z (holding b (b.items ++ (x ∷ []))) d) (sym new'.1) all)) (step_sound step sound)
+      record {
+        marked = rw grown (marked_more k b (x ∷ []) old.marked.0, old.marked.1);
+        summed = rw (new'.1, grown) summed;
+        sized = rw grown old.sized;
+        sound = step_sound step old.sound;
+      }
 
-  pub transacted_ghosts : {call : Call} {answer : Answer} → (x : Transaction) (e : Book Transaction) → Amended t Transacting 0 (tenths x.megawatts) (Ok u) → (z : Transaction) → z ≡ x → e ≡ holding d (d.items ++ (z ∷ [])) → Step (register k n b d) call answer (register k n b e) → Ghosts k n u b e
+  pub transacted_ghosts : {call : Call} {answer : Answer} → (x : Transaction) (e : Book Transaction) → Amended t Transacting 0 (tenths x.megawatts) (Ok u) → (z : Transaction) → z ≡ x → e ≡ holding d (d.items ++ (z ∷ [])) → Step (register k n b d) call answer (register k n b e) → Lawful k n u b e
   transacted_ghosts x e new z same put step =
       let grown : e ≡ holding d (d.items ++ (x ∷ [])) = put ∙ ap (λ (y : Transaction). holding d (d.items ++ (y ∷ []))) same in
       let p = phase_of k in
@@ -76,28 +65,34 @@ module _ (k n : ℕ) (t u : Totals) (b : Book BusPosition) (d : Book Transaction
       let v = with_side t Transacting (of_side t Transacting - 0 + m) in
       let summed : Summed v (register k n b (holding d (d.items ++ (x ∷ [])))) p = λ s.
       let r = replaced t Transacting s 0 m (omega arith) in
-      let was = old.1.1.0 s in
-      let more = ap (count_of (one_transaction p s)) (kept_more p d (x ∷ []) old.1.0.1.0) in
+      let was = old.summed s in
+      let more = ap (count_of (one_transaction p s)) (kept_more p d (x ∷ []) old.marked.1.0) in
       let push = count_push (one_transaction p s) (kept p d) (in_phase p x) in
       let one = counts p (one_if_side Transacting s * m) in
       omega arith in
-      let all : Tallied k n v b (holding d (d.items ++ (x ∷ []))) =
-      (old.0, ((old.1.0.0, marked_more k d (x ∷ []) old.1.0.1), (summed, old.1.1.1))) in
-      with_sound k n u b e (subst (λ (z : Book Transaction). Tallied k n u b z) (sym grown) (subst (λ (z : Totals). Tallied k n z b (holding d (d.items ++ (x ∷ [])))) (sym new.1) all)) (step_sound step sound)
+      record {
+        marked = rw grown (old.marked.0, marked_more k d (x ∷ []) old.marked.1);
+        summed = rw (new.1, grown) summed;
+        sized = rw grown old.sized;
+        sound = step_sound step old.sound;
+      }
 
-pub area_ghosts : {call : Call} {answer : Answer} → (k n : ℕ) (t u : Totals) (b : Book BusPosition) (d : Book Transaction) → Tallied k n t b d → Sound (register k n b d) → (a : Area) (e : Book BusPosition) → whole (shares_by a.members) ≡ 10000 → Amended t Withdrawing 0 a.amount (Ok u) → e ≡ holding b (b.items ++ area_loads a) → Step (register k n b d) call answer (register k n e d) → Ghosts k n u e d
-area_ghosts k n t u b d old sound a e all new grown step =
+pub area_ghosts : {call : Call} {answer : Answer} → (k n : ℕ) (t u : Totals) (b : Book BusPosition) (d : Book Transaction) → Lawful k n t b d → (a : Area) (e : Book BusPosition) → whole (shares_by a.members) ≡ 10000 → Amended t Withdrawing 0 a.amount (Ok u) → e ≡ holding b (b.items ++ area_loads a) → Step (register k n b d) call answer (register k n e d) → Lawful k n u e d
+area_ghosts k n t u b d old a e all new grown step =
     let p = phase_of k in
     let m = a.amount in
     let xs = area_loads a in
     let v = with_side t Withdrawing (of_side t Withdrawing - 0 + m) in
     let summed : Summed v (register k n (holding b (b.items ++ xs)) d) p = λ s.
     let r = replaced t Withdrawing s 0 m (omega arith) in
-    let was = old.1.1.0 s in
-    let more = ap (count_of (one_position p s)) (kept_more p b xs old.1.0.0.0) in
+    let was = old.summed s in
+    let more = ap (count_of (one_position p s)) (kept_more p b xs old.marked.0.0) in
     let both = count_append (one_position p s) (kept p b) (map (in_phase p) xs) in
     let added = count_area p p s a all ∙ counts p (one_if_side Withdrawing s * m) in
     omega arith in
-    let after : Tallied k n v (holding b (b.items ++ xs)) d =
-    (old.0, ((marked_more k b xs old.1.0.0, old.1.0.1), (summed, old.1.1.1))) in
-    with_sound k n u e d (subst (λ (z : Book BusPosition). Tallied k n u z d) (sym grown) (subst (λ (z : Totals). Tallied k n z (holding b (b.items ++ xs)) d) (sym new.1) after)) (step_sound step sound)
+    record {
+      marked = rw grown (marked_more k b xs old.marked.0, old.marked.1);
+      summed = rw (new.1, grown) summed;
+      sized = rw grown old.sized;
+      sound = step_sound step old.sound;
+    }

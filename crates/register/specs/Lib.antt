@@ -3,4 +3,3 @@ pub mod Register
 pub mod Sound
 pub mod Views
 pub mod Weighed
-pub mod Lawful

@@ -22,7 +22,7 @@ returns-in_default g c =
     let q = c.in_default.ensures in
     let calls = c.args.calls.now in
     let i = c.loop-i.i in
-    run_closed (register_of c.args.hour.now) (register_of c.loop-i.hour) (register_of c.make_call.new.hour) (phase_of g.row.PHASE) calls c.args.answers.now c.loop-i.answers i c.loop-i-test.true (c.loop-i.auto.answers ∙ c.requires) (ap call_of (get_or_default calls i Close _ c.loop-i-test.true) ∙ q.0) q.1 q.2 c.loop-i.invariant.0 c.loop-i.invariant.1
+    run_closed (register_of c.args.hour.now) (register_of c.loop-i.hour) (register_of c.make_call.new.hour) (phase_of g.P.OpenPhase.closings) calls c.args.answers.now c.loop-i.answers i c.loop-i-test.true (c.loop-i.auto.answers ∙ c.requires) (ap call_of (get_or_default calls i Close _ c.loop-i-test.true) ∙ q.0) q.1 q.2 c.loop-i.invariant.0 c.loop-i.invariant.1
 
 pub returns : goal.returns
 returns g c = run_all call_of c.args.calls.now c.loop-i.answers c.loop-i.i c.loop-i-test.false (c.loop-i.auto.answers ∙ c.requires) c.loop-i.invariant.0

@@ -6,8 +6,9 @@ ghost use Rattle.register.specs.Views.{done};
 use super::Hour;
 use positions::Position;
 use refusals::Cause;
+use register::OpenPhase;
 
-impl<'a, const PHASE: u8> Hour<'a, PHASE> {
+impl<'a, P: OpenPhase> Hour<'a, P> {
     // Replaces the M of a bus position.
     pub fn amend_position(&mut self, record: usize, tenths: u32) -> Result<(), Cause>
         ensures { Step (register_of self.old) (amending_position «record» tenths) (done result) (register_of self.new) }

@@ -10,7 +10,8 @@ use ledgers::Ledger;
 use positions::{BusPosition, Transaction};
 use quantities::MAX_BUSES;
 use refusals::Cause;
-use register::Totals;
+use register::{DayAheadPhase, Totals};
+use std::marker::PhantomData;
 
 // Each ledger of an hour has at most this many records.
 pub const MAX_RECORDS: usize = 4_096;
@@ -38,7 +39,7 @@ pub fn weigh_making(
     Ok(())
 }
 
-impl<'a> Hour<'a, 0> {
+impl<'a> Hour<'a, DayAheadPhase> {
     // A new hour, open day-ahead: the second step, where the first found nothing.
     pub fn new(
         buses: u16,
@@ -55,6 +56,7 @@ impl<'a> Hour<'a, 0> {
             positions,
             transactions,
             totals: Totals::none(),
+            phase: PhantomData,
         }
     }
 }

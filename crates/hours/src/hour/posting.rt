@@ -8,12 +8,12 @@ use apportion::AreaMember;
 use areas::{post_area, weigh_members};
 use positions::{BusPosition, Position, Side, Transaction};
 use refusals::Cause;
-use register::class_named;
+use register::{OpenPhase, class_named};
 
 // The largest number of a participant.
 pub const LAST_PARTICIPANT: u8 = 15;
 
-impl<'a, const PHASE: u8> Hour<'a, PHASE> {
+impl<'a, P: OpenPhase> Hour<'a, P> {
     // Posts a bus position, and answers the number of its record.
     pub fn post(
         &mut self,
@@ -30,9 +30,7 @@ impl<'a, const PHASE: u8> Hour<'a, PHASE> {
         if participant > LAST_PARTICIPANT {
             return Err(Cause::ParticipantOutOfRange);
         }
-        let Some(class) = class_named(PHASE, class) else {
-            return Err(Cause::ClassNotTaken);
-        };
+        let class = class_named::<P>(class)?;
         let totals = self.totals.amended(class.side(), 0, tenths)?;
         let number = self
             .positions

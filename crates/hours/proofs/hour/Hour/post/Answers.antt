@@ -6,7 +6,7 @@ use Rattle.positions.specs.Classes.{side_of}
 use Rattle.positions.specs.Kinds.{position}
 use Rattle.register.specs.declared.answers.Answer.TheVariants.{RecordNumber, Refused}
 use Rattle.hours.specs.Hours.{register_of}
-use Rattle.hours.proofs.Held.{marked, phased, sound, summed, tallied}
+use Rattle.hours.proofs.Held.{lawful}
 use Rattle.register.specs.Register.{Posting, post, Step}
 use Rattle.register.specs.Totals.{of_side}
 use Rattle.register.specs.Views.{phase_of, register}
@@ -23,19 +23,23 @@ pub returns-then-bus-self : goal.returns-then-bus-self
 returns-then-bus-self g c =
     let h = c.args.self.now in
     let a = call c.args.participant c.args.class c.args.bus c.args.tenths in
-    post_no_bus (register_of h) (phase_of g.row.PHASE) (open_phase g.row.PHASE h.buses (book h.positions) (book h.transactions) (phased h)) a c.if-bus-self.true
+    post_no_bus (register_of h) (phase_of g.P.OpenPhase.closings) (open_phase g.P.OpenPhase.closings h.buses (book h.positions) (book h.transactions) g.P.OpenPhase.few) a c.if-bus-self.true
 
 pub returns-then-participant-gt-LAST_PARTICIPANT : goal.returns-then-participant-gt-LAST_PARTICIPANT
 returns-then-participant-gt-LAST_PARTICIPANT g c =
     let h = c.args.self.now in
     let a = call c.args.participant c.args.class c.args.bus c.args.tenths in
-    post_no_participant (register_of h) (phase_of g.row.PHASE) (open_phase g.row.PHASE h.buses (book h.positions) (book h.transactions) (phased h)) a c.if-bus-self.false c.if-participant-gt-LAST_PARTICIPANT.true
+    post_no_participant (register_of h) (phase_of g.P.OpenPhase.closings) (open_phase g.P.OpenPhase.closings h.buses (book h.positions) (book h.transactions) g.P.OpenPhase.few) a c.if-bus-self.false c.if-participant-gt-LAST_PARTICIPANT.true
 
-pub returns-in_default : goal.returns-in_default
-returns-in_default g c =
+pub returns-in_err-class : goal.returns-in_err-class
+returns-in_err-class g c =
     let h = c.args.self.now in
     let a = call c.args.participant c.args.class c.args.bus c.args.tenths in
-    post_no_class (register_of h) (phase_of g.row.PHASE) (open_phase g.row.PHASE h.buses (book h.positions) (book h.transactions) (phased h)) a c.if-bus-self.false c.if-participant-gt-LAST_PARTICIPANT.false c.in_default.ensures
+    let none = c.in_err-class.ensures in
+    let r = register_of h in
+    let e = err_from_is_err_and c.from_residual.result c.from_residual.ensures.1 in
+    let step = post_no_class r (phase_of g.P.OpenPhase.closings) (open_phase g.P.OpenPhase.closings h.buses (book h.positions) (book h.transactions) g.P.OpenPhase.few) a c.if-bus-self.false c.if-participant-gt-LAST_PARTICIPANT.false none.1 in
+    rw (e.1, e.2) (subst (λ (x : Cause). Step r (post a) (Refused x) r) (sym none.0) step)
 
 pub returns-in_err-totals : goal.returns-in_err-totals
 returns-in_err-totals g c =
@@ -43,9 +47,9 @@ returns-in_err-totals g c =
     let a = call c.args.participant c.args.class c.args.bus c.args.tenths in
     let r = register_of h in
     let over = c.in_err-totals.ensures in
-    let is = ap (of_side h.totals) c.side.ensures ∙ summed h (side_of c.in-Some.class) in
-    let e = err_from_is_err_and c.from_residual.result c.from_residual.ensures.1 in
-    let step = post_too_much r (phase_of g.row.PHASE) (open_phase g.row.PHASE h.buses (book h.positions) (book h.transactions) (phased h)) a c.if-bus-self.false c.if-participant-gt-LAST_PARTICIPANT.false c.in-Some.class c.in-Some.ensures (omega (arith, over.1)) in
+    let is = ap (of_side h.totals) c.side.ensures ∙ h.summed (side_of c.in_ok-class.class) in
+    let e = err_from_is_err_and c.from_residual-in_err-totals.result c.from_residual-in_err-totals.ensures.1 in
+    let step = post_too_much r (phase_of g.P.OpenPhase.closings) (open_phase g.P.OpenPhase.closings h.buses (book h.positions) (book h.transactions) g.P.OpenPhase.few) a c.if-bus-self.false c.if-participant-gt-LAST_PARTICIPANT.false c.in_ok-class.class c.in_ok-class.ensures (omega (arith, over.1)) in
     rw (e.1, e.2) (subst (λ (x : Cause). Step r (post a) (Refused x) r) (sym over.0) step)
 
 pub returns-in_err-number : goal.returns-in_err-number
@@ -53,32 +57,31 @@ returns-in_err-number g c =
     let h = c.args.self.now in
     let a = call c.args.participant c.args.class c.args.bus c.args.tenths in
     let fit = c.in_ok-totals.ensures.0 in
-    let is = ap (of_side h.totals) c.side.ensures ∙ summed h (side_of c.in-Some.class) in
+    let is = ap (of_side h.totals) c.side.ensures ∙ h.summed (side_of c.in_ok-class.class) in
     let q = c.in_err-number.ensures.posted in
     let e = err_from_is_err_and c.from_residual-in_err-number.result c.from_residual-in_err-number.ensures.1 in
-    let step = post_full g.row.PHASE h.buses (book h.positions) (book h.transactions) (phased h) a c.if-bus-self.false c.if-participant-gt-LAST_PARTICIPANT.false c.in-Some.class c.in-Some.ensures (omega arith) _ (book c.post.new.self) q.0 q.1 q.2 in
+    let step = post_full g.P.OpenPhase.closings h.buses (book h.positions) (book h.transactions) g.P.OpenPhase.few a c.if-bus-self.false c.if-participant-gt-LAST_PARTICIPANT.false c.in_ok-class.class c.in_ok-class.ensures (omega arith) _ (book c.post.new.self) q.0 q.1 q.2 in
     rw (e.1, e.2) step
 
 -- the step that is taken
-step : (g : given.Over) (c : goal.In_ok-number g) → Step (register_of c.args.self.now) (post (call c.args.participant c.args.class c.args.bus c.args.tenths)) (RecordNumber c.in_ok-number.number) (register g.row.PHASE c.args.self.now.buses (book c.post.new.self) (book c.args.self.now.transactions))
+step : (g : given.Over) (c : goal.In_ok-number g) → Step (register_of c.args.self.now) (post (call c.args.participant c.args.class c.args.bus c.args.tenths)) (RecordNumber c.in_ok-number.number) (register g.P.OpenPhase.closings c.args.self.now.buses (book c.post.new.self) (book c.args.self.now.transactions))
 step g c =
     let h = c.args.self.now in
     let a = call c.args.participant c.args.class c.args.bus c.args.tenths in
     let fit = c.in_ok-totals.ensures.0 in
-    let is = ap (of_side h.totals) c.side.ensures ∙ summed h (side_of c.in-Some.class) in
+    let is = ap (of_side h.totals) c.side.ensures ∙ h.summed (side_of c.in_ok-class.class) in
     let q = c.in_ok-number.ensures.posted in
-    post_fills g.row.PHASE h.buses (book h.positions) (book h.transactions) (phased h) a c.if-bus-self.false c.if-participant-gt-LAST_PARTICIPANT.false c.in-Some.class c.in-Some.ensures (omega arith) c.in_ok-number.number (book c.post.new.self) (marked h).0.0 q.0 q.1 c.new.result c.new.ensures q.2
+    post_fills g.P.OpenPhase.closings h.buses (book h.positions) (book h.transactions) g.P.OpenPhase.few a c.if-bus-self.false c.if-participant-gt-LAST_PARTICIPANT.false c.in_ok-class.class c.in_ok-class.ensures (omega arith) c.in_ok-number.number (book c.post.new.self) h.marked.0.0 q.0 q.1 c.new.result c.new.ensures q.2
 
 pub invariant_of-self-2 : goal.invariant_of-self-2
 invariant_of-self-2 g c =
     let h = c.args.self.now in
     let q = c.in_ok-number.ensures.posted in
-    record {
-      lawful = posted_ghosts g.row.PHASE h.buses h.totals c.in_ok-totals.totals (book h.positions) (book h.transactions)
-          (tallied h) (sound h)
-          (position c.args.participant c.in-Some.class c.args.bus c.args.tenths)
-          c.side.result (book c.post.new.self) c.side.ensures c.in_ok-totals.ensures c.new.result c.new.ensures q.2 (step g (goal.at.invariant_of-self-2 g c).In_ok-number);
-    }
+    let l = posted_ghosts g.P.OpenPhase.closings h.buses h.totals c.in_ok-totals.totals (book h.positions) (book h.transactions)
+    (lawful h)
+    (position c.args.participant c.in_ok-class.class c.args.bus c.args.tenths)
+    c.side.result (book c.post.new.self) c.side.ensures c.in_ok-totals.ensures c.new.result c.new.ensures q.2 (step g (goal.at.invariant_of-self-2 g c).In_ok-number) in
+    record { marked = l.marked; summed = l.summed; sized = l.sized; sound = l.sound }
 
 pub returns : goal.returns
 returns g c = step g (goal.at.returns g c).In_ok-number

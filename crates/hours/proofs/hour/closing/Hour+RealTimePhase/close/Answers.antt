@@ -5,9 +5,8 @@ use Rattle.register.specs.declared.answers.Answer.TheVariants.{Taken}
 use Rattle.register.proofs.Closings.{end_step}
 use Rattle.register.proofs.Runs.{step_sound}
 use Rattle.hours.specs.Hours.{register_of}
-use Rattle.hours.proofs.Held.{sound}
-use Rattle.hours.proofs.hour.closing.Hour+1.close.Goals as goal
-use Rattle.hours.proofs.hour.closing.Hour+1.close.Goals.{After-finish-transactions}
+use Rattle.hours.proofs.hour.closing.Hour+RealTimePhase.close.Goals as goal
+use Rattle.hours.proofs.hour.closing.Hour+RealTimePhase.close.Goals.{After-finish-transactions}
 
 step : (c : goal.After-finish-transactions) → Step (register_of c.args.self) close Taken (register 2 c.args.self.buses (closed_book c.finish-positions.result) (closed_book c.finish-transactions.result))
 step c =
@@ -18,8 +17,8 @@ step c =
 
 pub invariant_of-result : goal.invariant_of-result
 invariant_of-result c =
-    let s = step_sound (step (goal.at.invariant_of-result c).After-finish-transactions) (sound c.args.self) in
-    record { sound = ∣ s ∣₁ }
+    let s = step_sound (step (goal.at.invariant_of-result c).After-finish-transactions) c.args.self.sound in
+    record { sound = s }
 
 pub returns : goal.returns
 returns c = step (goal.at.returns c).After-finish-transactions
