@@ -1,19 +1,18 @@
 -- A run goes on: one more call at its end. Assumes nothing.
-use Rattle.std.proofs.Common.{◌≡◌, ℕ, suc, ◌+◌, ◌-◌, ◌<◌, ◌≤◌, false, ◌≢◌, List, [], ◌∷◌, ◌++◌, map, length, get_or, take, drop, set, Some, sym, refl, ap, ◌∙◌, subst, append-nil, arith, lit≤, take-add}
+use Rattle.std.proofs.Common.{◌≡◌, ℕ, suc, ◌+◌, ◌-◌, ◌<◌, ◌≤◌, ◌≢◌, List, [], ◌∷◌, ◌++◌, map, length, get_or, take, drop, set, Some, None, sym, refl, ap, ◌∙◌, subst, append-nil, arith, lit≤, take-add, Ok}
 use borrow.Rule.Slice.PartMut.{put_mid}
 use Rattle.std.proofs.lemmas.List.{take_all, drop_all, map_more, map-append, take-append-drop, length-take-le, length-drop, length-append, take-set, take_more_set, drop-set-lt, drop-drop, drop-append-le}
 use lib.Seq.{take-append-add}
 use Rattle.call_lists.specs.declared.calls.Call as program
 use Rattle.call_lists.specs.declared.calls.Call.TheVariants.{Close}
-use Rattle.register.specs.declared.answers.Answer.{Answer}
-use Rattle.register.specs.declared.answers.Answer.TheVariants.{Taken}
+use Rattle.register.specs.declared.answers.Accepted.TheVariants.{Taken}
 use Rattle.refusals.specs.Answers.{Clear, First}
 use Rattle.refusals.specs.Causes.{number}
 use Rattle.refusals.specs.declared.Cause.{Cause}
 use Rattle.refusals.specs.declared.Cause.TheVariants.{RowLength}
 use Rattle.register.specs.Weighed.{MakingRefused}
 use Rattle.register.proofs.Closings.{making_least}
-use Rattle.register.specs.Register.{Register, Phase, Call, close, Step, took, closes, Run, done, next, Holds}
+use Rattle.register.specs.Register.{Register, Phase, Call, close, Step, took, closes, Run, done, next, Holds, Answer}
 use Rattle.call_lists.specs.Runs.{call_of, PhaseRun, Replayed, ReplayRefused, other_length, making}
 
 pub run_push : {r s t : Register} {calls : List Call} {answers : List Answer} (a : Call) (b : Answer) → Run r calls answers s → Step s a b t → Run r (calls ++ (a ∷ [])) (answers ++ (b ∷ [])) t
@@ -37,24 +36,24 @@ rest_stays before answers i b e =
     drop-set-lt (i + 1) answers i b (omega arith) ∙ sym (drop-drop 1 i answers) ∙ ap (drop 1) e ∙ drop-drop 1 i before
 
 -- the closing at i ends the phase's calls
-pub run_closed : (r s u : Register) (p : Phase) (calls : List program.Call) (before answers : List Answer) (i : ℕ) → i < length calls → length answers ≡ length calls → call_of (get_or calls i Close) ≡ close → Clear (Holds u p close) → u ≡ s → Run r (map call_of (take i calls)) (take i answers) s → drop i answers ≡ drop i before → PhaseRun r p calls before (Some i) (set answers i Taken) u
+pub run_closed : (r s u : Register) (p : Phase) (calls : List program.Call) (before answers : List Answer) (i : ℕ) → i < length calls → length answers ≡ length calls → call_of (get_or calls i Close) ≡ close → Clear (Holds u p close) → u ≡ s → Run r (map call_of (take i calls)) (take i answers) s → drop i answers ≡ drop i before → PhaseRun r p calls before (Some i) (set answers i (Ok Taken)) u
 run_closed r s u p calls before answers i here same is clear stays run rest =
     let there : i < length answers = omega arith in
-    let kept = take-set answers i Taken in
-    let more = take_more_set answers i Taken there in (
+    let kept = take-set answers i (Ok Taken) in
+    let more = take_more_set answers i (Ok Taken) there in (
       here,
       is,
       subst (λ (xs : List Answer). Run r (map call_of (take i calls)) xs u) (sym kept) (subst (λ (v : Register). Run r (map call_of (take i calls)) (take i answers) v) (sym stays) run),
-      more ∙ ap (λ (xs : List Answer). xs ++ (Taken ∷ [])) (sym kept),
+      more ∙ ap (λ (xs : List Answer). xs ++ (Ok Taken ∷ [])) (sym kept),
       clear,
-      rest_stays before answers i Taken rest,
+      rest_stays before answers i (Ok Taken) rest,
     )
 
 -- a phase that went over: its calls with the closing, as one run
-pub run_over : (r s t : Register) (p : Phase) (calls : List program.Call) (before answers : List Answer) (i : ℕ) → PhaseRun r p calls before (Some i) answers s → Step s close Taken t → Run r (map call_of (take (i + 1) calls)) (take (i + 1) answers) t
+pub run_over : (r s t : Register) (p : Phase) (calls : List program.Call) (before answers : List Answer) (i : ℕ) → PhaseRun r p calls before (Some i) answers s → Step s close (Ok Taken) t → Run r (map call_of (take (i + 1) calls)) (take (i + 1) answers) t
 run_over r s t p calls before answers i h step =
     let one = map_more call_of calls i Close h.0 ∙ ap (λ (a : Call). map call_of (take i calls) ++ (a ∷ [])) h.1 in
-    let run = run_push close Taken h.2 step in
+    let run = run_push close (Ok Taken) h.2 step in
     subst (λ (cs : List Call). Run r cs (take (i + 1) answers) t) (sym one)
     (subst (λ (xs : List Answer). Run r (map call_of (take i calls) ++ (close ∷ [])) xs t) (sym h.3) run)
 
@@ -64,7 +63,7 @@ pub run_join : {r s t : Register} {a b : List Call} {x y : List Answer} → Run 
 run_join done more = more
 run_join (next first rest) more = next first (run_join rest more)
 
-module _ (r s t : Register) (p : Phase) (calls : List program.Call) (before early all : List Answer) (i : ℕ) (was : PhaseRun r p calls before (Some i) early s) (over : Step s close Taken t) where
+module _ (r s t : Register) (p : Phase) (calls : List program.Call) (before early all : List Answer) (i : ℕ) (was : PhaseRun r p calls before (Some i) early s) (over : Step s close (Ok Taken) t) where
   -- the calls of the second phase are those behind the closing, and so are their answers
   pub run_both : (u : Register) (q : Phase) (late : List Answer) → all ≡ take (i + 1) early ++ late → Run t (map call_of (drop (i + 1) calls)) late u → Run r (map call_of calls) all u
   run_both u q late is run =
@@ -73,7 +72,7 @@ module _ (r s t : Register) (p : Phase) (calls : List program.Call) (before earl
       subst (λ (cs : List Call). Run r cs all u) whole
       (subst (λ (xs : List Answer). Run r (map call_of (take (i + 1) calls) ++ map call_of (drop (i + 1) calls)) xs u) (sym is) (run_join (run_over r s t p calls before early i was over) run))
 
-  pub run_twice : (u v : Register) (q : Phase) (lent late : List Answer) (j : ℕ) → length early ≡ length calls → all ≡ take (i + 1) early ++ late → PhaseRun t q (drop (i + 1) calls) lent (Some j) late u → Step u close Taken v → (i + 1 + (j + 1) ≤ length calls) × Run r (map call_of (take (i + 1 + (j + 1)) calls)) (take (i + 1 + (j + 1)) all) v
+  pub run_twice : (u v : Register) (q : Phase) (lent late : List Answer) (j : ℕ) → length early ≡ length calls → all ≡ take (i + 1) early ++ late → PhaseRun t q (drop (i + 1) calls) lent (Some j) late u → Step u close (Ok Taken) v → (i + 1 + (j + 1) ≤ length calls) × Run r (map call_of (take (i + 1 + (j + 1)) calls)) (take (i + 1 + (j + 1)) all) v
   run_twice u v q lent late j same is then end =
       let n = i + 1 in
       let m = j + 1 in
@@ -91,7 +90,7 @@ module _ (r s t : Register) (p : Phase) (calls : List program.Call) (before earl
             (subst (λ (xs : List Answer). Run r (map call_of (take n calls) ++ map call_of (take m (drop n calls))) xs v) (sym two) run),
       )
 
-pub closings_after : (r s : Register) → Step r close Taken s → s.closings ≡ suc r.closings
+pub closings_after : (r s : Register) → Step r close (Ok Taken) s → s.closings ≡ suc r.closings
 closings_after r s (took o clear closes) = refl
 
 -- a write to all that is behind n leaves what is before it, and then what was written
@@ -118,7 +117,7 @@ long_twice n early late all h is same =
     omega arith
 
 -- all calls are made
-pub made_all : (r s : Register) (calls : List program.Call) (before after : List Answer) → length before ≡ length calls → length after ≡ length calls → Run r (map call_of calls) after s → s.closings < 2 → Replayed r calls before after (record { made = length calls; closed = false })
+pub made_all : (r s : Register) (calls : List program.Call) (before after : List Answer) → length before ≡ length calls → length after ≡ length calls → Run r (map call_of calls) after s → s.closings < 2 → Replayed r calls before after None
 made_all r s calls before after was same run few =
     let n = length calls in
     record {
@@ -126,7 +125,7 @@ made_all r s calls before after was same run few =
       within = omega arith;
       run = rw (take_all n calls (omega arith), take_all n after (omega arith)) run;
       rest = drop_all n after (omega arith) ∙ sym (drop_all n before (omega arith));
-      ended = (few, refl);
+      ended = few;
     }
 
 -- ---- refusals

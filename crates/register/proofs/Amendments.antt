@@ -1,5 +1,5 @@
 -- An amendment as a step of the register. Assumes nothing.
-use Rattle.std.proofs.Common.{◌≡◌, ℕ, ◌+◌, ◌-◌, ◌*◌, ◌<◌, ◌≤◌, List, ◌∷◌, ◌++◌, length, get_or, set, Ok, sym, ap, ◌∙◌, subst, arith}
+use Rattle.std.proofs.Common.{◌≡◌, ℕ, ◌+◌, ◌-◌, ◌*◌, ◌<◌, ◌≤◌, List, ◌∷◌, ◌++◌, length, get_or, set, Ok, sym, ap, ◌∙◌, subst, arith, Err}
 use Rattle.std.proofs.lemmas.List.{length-set}
 use Rattle.quantities.specs.Sums.{count_of}
 use Rattle.quantities.proofs.SumLaws.{count_middle}
@@ -13,12 +13,11 @@ use Rattle.positions.specs.declared.bus_positions.BusPosition.{BusPosition}
 use Rattle.positions.specs.declared.transactions.Transaction.{Transaction}
 use Rattle.positions.specs.declared.classes.Side.{Side}
 use Rattle.positions.specs.declared.classes.Side.TheVariants.{Transacting}
-use Rattle.register.specs.declared.answers.Answer.{Answer}
-use Rattle.register.specs.declared.answers.Answer.TheVariants.{Taken, Refused}
+use Rattle.register.specs.declared.answers.Accepted.TheVariants.{Taken}
 use Rattle.register.specs.declared.totals.Totals.{Totals}
 use Rattle.register.specs.Totals.{of_side, with_side, Amended}
 use Rattle.refusals.specs.Answers.{Clear}
-use Rattle.register.specs.Register.{Register, Kept, Phase, Call, Standing, stands, amend_position, amend_transaction, Holds, amend_absent, amend_total, amend_transaction_absent, amend_transaction_total, total, amends, amends_transaction, Step, took, stood, with_positions, with_transactions, in_phase, one_position, one_transaction}
+use Rattle.register.specs.Register.{Register, Kept, Phase, Call, Standing, stands, amend_position, amend_transaction, Holds, amend_absent, amend_total, amend_transaction_absent, amend_transaction_total, total, amends, amends_transaction, Step, took, stood, with_positions, with_transactions, in_phase, one_position, one_transaction, Answer}
 use Rattle.register.specs.Views.{phase_of, kept, register, Marked, Summed}
 use Rattle.register.proofs.Counted.{counts, counts_side, replaced}
 use Rattle.register.proofs.Ghosts.{Lawful}
@@ -64,43 +63,43 @@ stands_at : {P : Type 0} (p : Phase) (b : Book P) (i : ℕ) (x : P) → b.mark �
 stands_at p b i x low high is = stands (front_of p b i) (back_of p b i) (kept_at p b i x low high is) (front_length p b i low high)
 
 module _ (k n : ℕ) (b : Book BusPosition) (d : Book Transaction) (h : k < 2) (i m : ℕ) where
-  pub amend_not_open : Marked k b → (b.mark ≤ i → i < length b.items → ⊥) → Step (register k n b d) (amend_position i m) (Refused RecordNotOpen) (register k n b d)
+  pub amend_not_open : Marked k b → (b.mark ≤ i → i < length b.items → ⊥) → Step (register k n b d) (amend_position i m) (Err RecordNotOpen) (register k n b d)
   amend_not_open mk none =
       let absent : (e : BusPosition) → Standing BusPosition (phase_of k) (kept (phase_of k) b) i e → ⊥ = λ e s. none (past_mark k b i e mk.1 s) (below_end (phase_of k) b i e s) in
       stood (open_phase k n b d h) (record { holds = amend_absent absent; least = absent_least (register k n b d) (phase_of k) i m absent })
 
-  pub amend_too_much : (x : BusPosition) → b.mark ≤ i → i < length b.items → x ≡ get_or b.items i x → 1000000 + tenths x.megawatts < total (register k n b d) (phase_of k) (side_of x.class) + m → Step (register k n b d) (amend_position i m) (Refused TotalOverLimit) (register k n b d)
+  pub amend_too_much : (x : BusPosition) → b.mark ≤ i → i < length b.items → x ≡ get_or b.items i x → 1000000 + tenths x.megawatts < total (register k n b d) (phase_of k) (side_of x.class) + m → Step (register k n b d) (amend_position i m) (Err TotalOverLimit) (register k n b d)
   amend_too_much x low high is over =
       stood (open_phase k n b d h) (record { holds = amend_total x (stands_at (phase_of k) b i x low high is) over; least = over_least (register k n b d) (phase_of k) i m })
 
-  pub amend_taken : (x : BusPosition) (e : Book BusPosition) → b.mark ≤ i → i < length b.items → x ≡ get_or b.items i x → total (register k n b d) (phase_of k) (side_of x.class) + m ≤ 1000000 + tenths x.megawatts → e ≡ holding b (set b.items i (amended_position (get_or b.items i x) m)) → Step (register k n b d) (amend_position i m) Taken (register k n e d)
+  pub amend_taken : (x : BusPosition) (e : Book BusPosition) → b.mark ≤ i → i < length b.items → x ≡ get_or b.items i x → total (register k n b d) (phase_of k) (side_of x.class) + m ≤ 1000000 + tenths x.megawatts → e ≡ holding b (set b.items i (amended_position (get_or b.items i x) m)) → Step (register k n b d) (amend_position i m) (Ok Taken) (register k n e d)
   amend_taken x e low high is most changed =
       let new : e ≡ holding b (set b.items i (amended_position x m)) = changed ∙ ap (λ (z : BusPosition). holding b (set b.items i (amended_position z m))) (sym is) in
       let p = phase_of k in
       let r = register k n b d in
-      let step : Step r (amend_position i m) Taken (with_positions r (front_of p b i ++ (in_phase p (amended_position x m) ∷ back_of p b i))) =
+      let step : Step r (amend_position i m) (Ok Taken) (with_positions r (front_of p b i ++ (in_phase p (amended_position x m) ∷ back_of p b i))) =
       took (open_phase k n b d h) (amend_clear r p i m x (stands_at p b i x low high is) most) (amends i m x (front_of p b i) (back_of p b i) (kept_at p b i x low high is) (front_length p b i low high)) in
-      subst (λ (z : Book BusPosition). Step r (amend_position i m) Taken (register k n z d)) (sym new)
-      (subst (λ (xs : List (Kept BusPosition)). Step r (amend_position i m) Taken (with_positions r xs)) (sym (kept_set p b i (amended_position x m) low high)) step)
+      subst (λ (z : Book BusPosition). Step r (amend_position i m) (Ok Taken) (register k n z d)) (sym new)
+      (subst (λ (xs : List (Kept BusPosition)). Step r (amend_position i m) (Ok Taken) (with_positions r xs)) (sym (kept_set p b i (amended_position x m) low high)) step)
 
-  pub transaction_not_open : Marked k d → (d.mark ≤ i → i < length d.items → ⊥) → Step (register k n b d) (amend_transaction i m) (Refused RecordNotOpen) (register k n b d)
+  pub transaction_not_open : Marked k d → (d.mark ≤ i → i < length d.items → ⊥) → Step (register k n b d) (amend_transaction i m) (Err RecordNotOpen) (register k n b d)
   transaction_not_open mk none =
       let absent : (e : Transaction) → Standing Transaction (phase_of k) (kept (phase_of k) d) i e → ⊥ = λ e s. none (past_mark k d i e mk.1 s) (below_end (phase_of k) d i e s) in
       stood (open_phase k n b d h) (record { holds = amend_transaction_absent absent; least = transaction_absent_least (register k n b d) (phase_of k) i m absent })
 
-  pub transaction_too_much : (x : Transaction) → d.mark ≤ i → i < length d.items → x ≡ get_or d.items i x → 1000000 + tenths x.megawatts < total (register k n b d) (phase_of k) Transacting + m → Step (register k n b d) (amend_transaction i m) (Refused TotalOverLimit) (register k n b d)
+  pub transaction_too_much : (x : Transaction) → d.mark ≤ i → i < length d.items → x ≡ get_or d.items i x → 1000000 + tenths x.megawatts < total (register k n b d) (phase_of k) Transacting + m → Step (register k n b d) (amend_transaction i m) (Err TotalOverLimit) (register k n b d)
   transaction_too_much x low high is over =
       stood (open_phase k n b d h) (record { holds = amend_transaction_total x (stands_at (phase_of k) d i x low high is) over; least = transaction_over_least (register k n b d) (phase_of k) i m })
 
-  pub transaction_taken : (x : Transaction) (e : Book Transaction) → d.mark ≤ i → i < length d.items → x ≡ get_or d.items i x → total (register k n b d) (phase_of k) Transacting + m ≤ 1000000 + tenths x.megawatts → e ≡ holding d (set d.items i (amended_transaction (get_or d.items i x) m)) → Step (register k n b d) (amend_transaction i m) Taken (register k n b e)
+  pub transaction_taken : (x : Transaction) (e : Book Transaction) → d.mark ≤ i → i < length d.items → x ≡ get_or d.items i x → total (register k n b d) (phase_of k) Transacting + m ≤ 1000000 + tenths x.megawatts → e ≡ holding d (set d.items i (amended_transaction (get_or d.items i x) m)) → Step (register k n b d) (amend_transaction i m) (Ok Taken) (register k n b e)
   transaction_taken x e low high is most changed =
       let new : e ≡ holding d (set d.items i (amended_transaction x m)) = changed ∙ ap (λ (z : Transaction). holding d (set d.items i (amended_transaction z m))) (sym is) in
       let p = phase_of k in
       let r = register k n b d in
-      let step : Step r (amend_transaction i m) Taken (with_transactions r (front_of p d i ++ (in_phase p (amended_transaction x m) ∷ back_of p d i))) =
+      let step : Step r (amend_transaction i m) (Ok Taken) (with_transactions r (front_of p d i ++ (in_phase p (amended_transaction x m) ∷ back_of p d i))) =
       took (open_phase k n b d h) (transaction_clear r p i m x (stands_at p d i x low high is) most) (amends_transaction i m x (front_of p d i) (back_of p d i) (kept_at p d i x low high is) (front_length p d i low high)) in
-      subst (λ (z : Book Transaction). Step r (amend_transaction i m) Taken (register k n b z)) (sym new)
-      (subst (λ (xs : List (Kept Transaction)). Step r (amend_transaction i m) Taken (with_transactions r xs)) (sym (kept_set p d i (amended_transaction x m) low high)) step)
+      subst (λ (z : Book Transaction). Step r (amend_transaction i m) (Ok Taken) (register k n b z)) (sym new)
+      (subst (λ (xs : List (Kept Transaction)). Step r (amend_transaction i m) (Ok Taken) (with_transactions r xs)) (sym (kept_set p d i (amended_transaction x m) low high)) step)
 
 -- ---- the totals
 

@@ -1,5 +1,5 @@
 -- Making and closing as steps of the register. Assumes nothing.
-use Rattle.std.proofs.Common.{◌≡◌, ℕ, ◌<◌, ◌≤◌, List, [], ◌∷◌, ◌++◌, map, length, take, drop, sym, refl, ap, ◌∙◌, subst, append-nil, arith, lit≤}
+use Rattle.std.proofs.Common.{◌≡◌, ℕ, ◌<◌, ◌≤◌, List, [], ◌∷◌, ◌++◌, map, length, take, drop, sym, refl, ap, ◌∙◌, subst, append-nil, arith, lit≤, Ok, Err}
 use Rattle.std.proofs.lemmas.List.{map-append, take-append-drop, take_all, drop_all}
 use Rattle.quantities.specs.Sums.{count_of}
 use Rattle.refusals.specs.Causes.{number}
@@ -11,7 +11,7 @@ use Rattle.positions.specs.declared.bus_positions.BusPosition.{BusPosition}
 use Rattle.positions.specs.declared.transactions.Transaction.{Transaction}
 use Rattle.positions.specs.declared.classes.Side.{Side}
 use Rattle.positions.specs.declared.classes.Side.TheVariants.{Withdrawing, Injecting, Transacting}
-use Rattle.register.specs.declared.answers.Answer.TheVariants.{Taken, Refused}
+use Rattle.register.specs.declared.answers.Accepted.TheVariants.{Taken}
 use Rattle.register.specs.declared.totals.Totals.{Totals}
 use Rattle.register.specs.Totals.{of_side}
 use Rattle.refusals.specs.Answers.{Clear, First}
@@ -69,7 +69,7 @@ module _ (k n : ℕ) (t : Totals) (b : Book BusPosition) (d : Book Transaction) 
   pub close_clear : t.withdrawing ≡ t.injecting → Clear (Holds (register k n b d) (phase_of k) close)
   close_clear e = balanced_clear (register k n b d) (phase_of k) (sym (sums Withdrawing) ∙ e ∙ sums Injecting)
 
-  pub close_refused : (t.withdrawing ≡ t.injecting → ⊥) → Step (register k n b d) close (Refused Unbalanced) (register k n b d)
+  pub close_refused : (t.withdrawing ≡ t.injecting → ⊥) → Step (register k n b d) close (Err Unbalanced) (register k n b d)
   close_refused ne = stood (open_phase k n b d h) (record {
     holds = close_unbalanced (λ e. ne (sums Withdrawing ∙ e ∙ sym (sums Injecting)));
     least = unbalanced_least (register k n b d) (phase_of k);
@@ -99,7 +99,7 @@ no_transaction : (s : Side) (xs : List Transaction) → count_of (one_transactio
 no_transaction s [] = refl
 no_transaction s (x ∷ xs) = let rest = no_transaction s xs in omega arith
 
-pub over_ghosts : (n : ℕ) (t u : Totals) (b e : Book BusPosition) (d f : Book Transaction) → Lawful 0 n t b d → e ≡ closed b → f ≡ closed d → u ≡ none → Step (register 0 n b d) close Taken (register 1 n e f) → Lawful 1 n u e f
+pub over_ghosts : (n : ℕ) (t u : Totals) (b e : Book BusPosition) (d f : Book Transaction) → Lawful 0 n t b d → e ≡ closed b → f ≡ closed d → u ≡ none → Step (register 0 n b d) close (Ok Taken) (register 1 n e f) → Lawful 1 n u e f
 over_ghosts n t u b e d f old p q z step =
     let summed : Summed none (register 1 n (closed b) (closed d)) real_time = λ s.
     let none_here = none_side s in
@@ -115,20 +115,20 @@ over_ghosts n t u b e d f old p q z step =
       sound = step_sound step old.sound;
     }
 
-pub over_step : (n : ℕ) (b e : Book BusPosition) (d f : Book Transaction) → Clear (Holds (register 0 n b d) day_ahead close) → e ≡ closed b → f ≡ closed d → Step (register 0 n b d) close Taken (register 1 n e f)
+pub over_step : (n : ℕ) (b e : Book BusPosition) (d f : Book Transaction) → Clear (Holds (register 0 n b d) day_ahead close) → e ≡ closed b → f ≡ closed d → Step (register 0 n b d) close (Ok Taken) (register 1 n e f)
 over_step n b e d f clear p q =
     let r = register 0 n b d in
-    let step : Step r close Taken (with_closings r 1) = took (in_day_ahead refl) clear closes in
+    let step : Step r close (Ok Taken) (with_closings r 1) = took (in_day_ahead refl) clear closes in
     let same : with_closings r 1 ≡ register 1 n (closed b) (closed d) =
     ap (λ (xs : List (Kept BusPosition)). with_positions (with_closings r 1) xs) (kept_over b)
     ∙ ap (λ (ys : List (Kept Transaction)). with_transactions (with_positions (with_closings r 1) (kept real_time (closed b))) ys) (kept_over d) in
-    subst (λ (x : Book BusPosition). Step r close Taken (register 1 n x f)) (sym p)
-    (subst (λ (x : Book Transaction). Step r close Taken (register 1 n (closed b) x)) (sym q)
-    (subst (λ (x : Register). Step r close Taken x) same step))
+    subst (λ (x : Book BusPosition). Step r close (Ok Taken) (register 1 n x f)) (sym p)
+    (subst (λ (x : Book Transaction). Step r close (Ok Taken) (register 1 n (closed b) x)) (sym q)
+    (subst (λ (x : Register). Step r close (Ok Taken) x) same step))
 
-pub end_step : (n : ℕ) (b e : Book BusPosition) (d f : Book Transaction) → Clear (Holds (register 1 n b d) real_time close) → e ≡ b → f ≡ d → Step (register 1 n b d) close Taken (register 2 n e f)
+pub end_step : (n : ℕ) (b e : Book BusPosition) (d f : Book Transaction) → Clear (Holds (register 1 n b d) real_time close) → e ≡ b → f ≡ d → Step (register 1 n b d) close (Ok Taken) (register 2 n e f)
 end_step n b e d f clear p q =
     let r = register 1 n b d in
-    let step : Step r close Taken (register 2 n b d) = took (in_real_time refl) clear closes in
-    subst (λ (x : Book BusPosition). Step r close Taken (register 2 n x f)) (sym p)
-    (subst (λ (x : Book Transaction). Step r close Taken (register 2 n b x)) (sym q) step)
+    let step : Step r close (Ok Taken) (register 2 n b d) = took (in_real_time refl) clear closes in
+    subst (λ (x : Book BusPosition). Step r close (Ok Taken) (register 2 n x f)) (sym p)
+    (subst (λ (x : Book Transaction). Step r close (Ok Taken) (register 2 n b x)) (sym q) step)

@@ -11,11 +11,10 @@ use Rattle.positions.specs.declared.bus_positions.BusPosition.{BusPosition}
 use Rattle.positions.specs.declared.transactions.Transaction.{Transaction}
 use Rattle.positions.specs.declared.classes.Side.{Side}
 use Rattle.positions.specs.declared.classes.Side.TheVariants.{Withdrawing, Transacting}
-use Rattle.register.specs.declared.answers.Answer.{Answer}
 use Rattle.register.specs.declared.totals.Totals.{Totals}
 use Rattle.register.specs.Totals.{of_side, with_side, Amended}
 use Rattle.areas.specs.Areas.{shares_by}
-use Rattle.register.specs.Register.{Call, Area, one_position, one_transaction, in_phase, area_loads, Step}
+use Rattle.register.specs.Register.{Call, Area, one_position, one_transaction, in_phase, area_loads, Step, Answer}
 use Rattle.register.specs.Sound.{Sound}
 use Rattle.register.specs.Views.{phase_of, kept, register, Marked, Summed, Sized}
 use Rattle.register.proofs.Kept.{kept_more}

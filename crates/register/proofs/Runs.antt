@@ -16,9 +16,8 @@ use Rattle.positions.specs.declared.bus_positions.BusPosition.{BusPosition}
 use Rattle.positions.specs.declared.transactions.Transaction.{Transaction}
 use Rattle.positions.specs.declared.classes.Side.{Side}
 use Rattle.positions.specs.declared.classes.Side.TheVariants.{Withdrawing, Injecting, Transacting}
-use Rattle.register.specs.declared.answers.Answer.{Answer}
 use Rattle.areas.specs.Areas.{shares_by, nowhere, loads}
-use Rattle.register.specs.Register.{Register, Kept, Phase, day_ahead, real_time, in_phase, Call, one_if_phase, one_position, one_transaction, total, Open, in_day_ahead, in_real_time, stands, area_loads, Holds, post_bus, post_participant, post_total, transfer_source, transfer_sink, transfer_participant, transfer_total, area_bus, area_participant, area_total, area_shares, amend_total, amend_transaction_total, close_unbalanced, with_positions, with_transactions, with_closings, Takes, posts, transfers, spreads, amends, amends_transaction, closes, Step, took, stood, Run, done, next, fresh}
+use Rattle.register.specs.Register.{Register, Kept, Phase, day_ahead, real_time, in_phase, Call, one_if_phase, one_position, one_transaction, total, Open, in_day_ahead, in_real_time, stands, area_loads, Holds, post_bus, post_participant, post_total, transfer_source, transfer_sink, transfer_participant, transfer_total, area_bus, area_participant, area_total, area_shares, amend_total, amend_transaction_total, close_unbalanced, with_positions, with_transactions, with_closings, Takes, posts, transfers, spreads, amends, amends_transaction, closes, Step, took, stood, Run, done, next, fresh, Answer}
 use Rattle.register.specs.Sound.{Limited, Balanced, ClosedBalanced, Sound}
 use Rattle.register.proofs.Spread.{count_area}
 

@@ -5,7 +5,6 @@ use Rattle.refusals.specs.declared.Cause.{Cause}
 use Rattle.refusals.specs.declared.Cause.TheVariants.{ClassNotTaken, OutsideLimits}
 use Rattle.quantities.specs.Limits.{most_buses}
 use Rattle.positions.specs.declared.classes.Class.{Class}
-use Rattle.register.specs.declared.answers.Answer.TheVariants.{Refused}
 use Rattle.register.specs.Register.{Register, Phase, Names, Holds, Step, close}
 
 -- the class that a number names in a phase, or that it names none
@@ -24,4 +23,4 @@ pub data MakingRefused (n rooms roomt : ℕ) : Cause → Type 0 where
 
 abbrev pub ClosingWeighed : Register → Phase → Result (Unit {0}) Cause → Type 0
 ClosingWeighed r p (Ok _) = Clear (Holds r p close)
-ClosingWeighed r p (Err c) = Step r close (Refused c) r
+ClosingWeighed r p (Err c) = Step r close (Err c) r

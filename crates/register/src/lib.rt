@@ -7,7 +7,7 @@ mod classes;
 mod phases;
 mod totals;
 
-pub use answers::Answer;
+pub use answers::{Accepted, Answer};
 pub use classes::class_named;
 pub use phases::{DayAheadPhase, OpenPhase, RealTimePhase};
 pub use totals::Totals;

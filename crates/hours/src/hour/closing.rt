@@ -4,7 +4,8 @@ ghost use Rattle.hours.specs.Hours.{closed_register, register_of};
 ghost use Rattle.register.specs.Register.{Holds, Step, close as closing};
 ghost use Rattle.register.specs.Views.{phase_of};
 ghost use Rattle.register.specs.Weighed.{ClosingWeighed};
-ghost use Rattle.register.specs.declared.answers.Answer.TheVariants.{Taken};
+ghost use Rattle.std.specs.Prelude.{Ok};
+ghost use Rattle.register.specs.declared.answers.Accepted.TheVariants.{Taken};
 
 use super::{ClosedHour, Hour, RealTime};
 use refusals::Cause;
@@ -28,7 +29,7 @@ impl<'a> Hour<'a, DayAheadPhase> {
     // Goes over to real time: the second step, where the first found nothing.
     pub fn close(self) -> RealTime<'a>
         requires { Clear (Holds (register_of self) (phase_of 0) closing) }
-        ensures { Step (register_of self.entry) closing Taken (register_of result) }
+        ensures { Step (register_of self.entry) closing (Ok Taken) (register_of result) }
     {
         let Hour {
             buses,
@@ -53,7 +54,7 @@ impl<'a> Hour<'a, RealTimePhase> {
     // Ends the hour: the second step, where the first found nothing.
     pub fn close(self) -> ClosedHour<'a>
         requires { Clear (Holds (register_of self) (phase_of 1) closing) }
-        ensures { Step (register_of self.entry) closing Taken (closed_register result) }
+        ensures { Step (register_of self.entry) closing (Ok Taken) (closed_register result) }
     {
         let Hour {
             buses,

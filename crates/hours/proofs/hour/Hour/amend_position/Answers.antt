@@ -1,9 +1,9 @@
-use Rattle.std.proofs.Common.{sym, ap, subst, arith}
+use Rattle.std.proofs.Common.{sym, ap, subst, arith, Ok, Err}
 use Rattle.std.proofs.lemmas.Result.{err_from_is_err_and}
 use Rattle.refusals.specs.declared.Cause.{Cause}
 use Rattle.ledgers.specs.Book.{book}
 use Rattle.positions.specs.Classes.{side_of}
-use Rattle.register.specs.declared.answers.Answer.TheVariants.{Taken, Refused}
+use Rattle.register.specs.declared.answers.Accepted.TheVariants.{Taken}
 use Rattle.hours.specs.Hours.{register_of}
 use Rattle.hours.proofs.Held.{lawful}
 use Rattle.register.specs.Register.{amend_position, Step}
@@ -31,10 +31,10 @@ returns-in_err-totals g c =
     let over = c.in_err-totals.ensures in
     let e = err_from_is_err_and c.from_residual.result c.from_residual.ensures.1 in
     let step = amend_too_much g.P.OpenPhase.closings h.buses (book h.positions) (book h.transactions) g.P.OpenPhase.few c.args.«record» c.args.tenths old at_i.0 at_i.1 (at_i.2 old) (omega (arith, over.1, c.tenths.ensures)) in
-    rw (e.1, e.2) (subst (λ (x : Cause). Step r (amend_position c.args.«record» c.args.tenths) (Refused x) r) (sym over.0) step)
+    rw (e.1, e.2) (subst (λ (x : Cause). Step r (amend_position c.args.«record» c.args.tenths) (Err x) r) (sym over.0) step)
 
 -- the step that is taken
-step : (g : given.Over) (c : goal.In_ok-amend g) → Step (register_of c.args.self.now) (amend_position c.args.«record» c.args.tenths) Taken (register g.P.OpenPhase.closings c.args.self.now.buses (book c.amend.new.self) (book c.args.self.now.transactions))
+step : (g : given.Over) (c : goal.In_ok-amend g) → Step (register_of c.args.self.now) (amend_position c.args.«record» c.args.tenths) (Ok Taken) (register g.P.OpenPhase.closings c.args.self.now.buses (book c.amend.new.self) (book c.args.self.now.transactions))
 step g c =
     let h = c.args.self.now in
     let at_i = c.in-Some.ensures in

@@ -1,10 +1,10 @@
-use Rattle.std.proofs.Common.{ℕ, sym, ap, ◌∙◌, subst, arith}
+use Rattle.std.proofs.Common.{ℕ, sym, ap, ◌∙◌, subst, arith, Ok, Err}
 use Rattle.std.proofs.lemmas.Result.{err_from_is_err_and}
 use Rattle.refusals.specs.declared.Cause.{Cause}
 use Rattle.ledgers.specs.Book.{book}
 use Rattle.positions.specs.Classes.{side_of}
 use Rattle.positions.specs.Kinds.{position}
-use Rattle.register.specs.declared.answers.Answer.TheVariants.{RecordNumber, Refused}
+use Rattle.register.specs.declared.answers.Accepted.TheVariants.{RecordNumber}
 use Rattle.hours.specs.Hours.{register_of}
 use Rattle.hours.proofs.Held.{lawful}
 use Rattle.register.specs.Register.{Posting, post, Step}
@@ -39,7 +39,7 @@ returns-in_err-class g c =
     let r = register_of h in
     let e = err_from_is_err_and c.from_residual.result c.from_residual.ensures.1 in
     let step = post_no_class r (phase_of g.P.OpenPhase.closings) (open_phase g.P.OpenPhase.closings h.buses (book h.positions) (book h.transactions) g.P.OpenPhase.few) a c.if-bus-self.false c.if-participant-gt-LAST_PARTICIPANT.false none.1 in
-    rw (e.1, e.2) (subst (λ (x : Cause). Step r (post a) (Refused x) r) (sym none.0) step)
+    rw (e.1, e.2) (subst (λ (x : Cause). Step r (post a) (Err x) r) (sym none.0) step)
 
 pub returns-in_err-totals : goal.returns-in_err-totals
 returns-in_err-totals g c =
@@ -50,7 +50,7 @@ returns-in_err-totals g c =
     let is = ap (of_side h.totals) c.side.ensures ∙ h.summed (side_of c.in_ok-class.class) in
     let e = err_from_is_err_and c.from_residual-in_err-totals.result c.from_residual-in_err-totals.ensures.1 in
     let step = post_too_much r (phase_of g.P.OpenPhase.closings) (open_phase g.P.OpenPhase.closings h.buses (book h.positions) (book h.transactions) g.P.OpenPhase.few) a c.if-bus-self.false c.if-participant-gt-LAST_PARTICIPANT.false c.in_ok-class.class c.in_ok-class.ensures (omega (arith, over.1)) in
-    rw (e.1, e.2) (subst (λ (x : Cause). Step r (post a) (Refused x) r) (sym over.0) step)
+    rw (e.1, e.2) (subst (λ (x : Cause). Step r (post a) (Err x) r) (sym over.0) step)
 
 pub returns-in_err-number : goal.returns-in_err-number
 returns-in_err-number g c =
@@ -64,7 +64,7 @@ returns-in_err-number g c =
     rw (e.1, e.2) step
 
 -- the step that is taken
-step : (g : given.Over) (c : goal.In_ok-number g) → Step (register_of c.args.self.now) (post (call c.args.participant c.args.class c.args.bus c.args.tenths)) (RecordNumber c.in_ok-number.number) (register g.P.OpenPhase.closings c.args.self.now.buses (book c.post.new.self) (book c.args.self.now.transactions))
+step : (g : given.Over) (c : goal.In_ok-number g) → Step (register_of c.args.self.now) (post (call c.args.participant c.args.class c.args.bus c.args.tenths)) (Ok (RecordNumber c.in_ok-number.number)) (register g.P.OpenPhase.closings c.args.self.now.buses (book c.post.new.self) (book c.args.self.now.transactions))
 step g c =
     let h = c.args.self.now in
     let a = call c.args.participant c.args.class c.args.bus c.args.tenths in

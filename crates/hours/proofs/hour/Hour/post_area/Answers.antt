@@ -1,11 +1,11 @@
-use Rattle.std.proofs.Common.{ℕ, List, sym, subst, arith}
+use Rattle.std.proofs.Common.{ℕ, List, sym, subst, arith, Ok, Err}
 use Rattle.std.proofs.lemmas.Result.{err_from_is_err_and}
 use Rattle.refusals.specs.declared.Cause.{Cause}
 use Rattle.apportion.specs.declared.items.AreaMember.{AreaMember}
 use Rattle.areas.proofs.Loads.{clear_room, clear_whole}
 use Rattle.ledgers.specs.Book.{book}
 use Rattle.positions.specs.declared.classes.Side.TheVariants.{Withdrawing}
-use Rattle.register.specs.declared.answers.Answer.TheVariants.{RecordNumber, Refused}
+use Rattle.register.specs.declared.answers.Accepted.TheVariants.{RecordNumber}
 use Rattle.hours.specs.Hours.{register_of}
 use Rattle.hours.proofs.Held.{lawful}
 use Rattle.register.specs.Register.{Area, area, Step}
@@ -28,7 +28,7 @@ returns-in_err-weigh_members g c =
     let q = c.in_err-weigh_members.ensures in
     let e = err_from_is_err_and c.from_residual.result c.from_residual.ensures.1 in
     let step = area_no_bus r (phase_of g.P.OpenPhase.closings) (open_phase g.P.OpenPhase.closings h.buses (book h.positions) (book h.transactions) g.P.OpenPhase.few) a q.1.0 q.1.1 q.1.2 in
-    rw (e.1, e.2) (subst (λ (x : Cause). Step r (area a) (Refused x) r) (sym q.0) step)
+    rw (e.1, e.2) (subst (λ (x : Cause). Step r (area a) (Err x) r) (sym q.0) step)
 
 pub returns-then-participant-gt-LAST_PARTICIPANT : goal.returns-then-participant-gt-LAST_PARTICIPANT
 returns-then-participant-gt-LAST_PARTICIPANT g c =
@@ -45,7 +45,7 @@ returns-in_err-totals g c =
     let is = h.summed Withdrawing in
     let e = err_from_is_err_and c.from_residual-in_err-totals.result c.from_residual-in_err-totals.ensures.1 in
     let step = area_too_much r (phase_of g.P.OpenPhase.closings) (open_phase g.P.OpenPhase.closings h.buses (book h.positions) (book h.transactions) g.P.OpenPhase.few) a c.in_ok-weigh_members.ensures c.if-participant-gt-LAST_PARTICIPANT.false (omega (arith, over.1)) in
-    rw (e.1, e.2) (subst (λ (x : Cause). Step r (area a) (Refused x) r) (sym over.0) step)
+    rw (e.1, e.2) (subst (λ (x : Cause). Step r (area a) (Err x) r) (sym over.0) step)
 
 -- what the areas' own call refused
 pub returns-in_err-first : goal.returns-in_err-first
@@ -60,7 +60,7 @@ returns-in_err-first g c =
     rw (e.1, e.2) step
 
 -- the step that is taken
-step : (g : given.Over) (c : goal.In_ok-first g) → Step (register_of c.args.self.now) (area (call c.args.participant c.args.tenths c.args.members.now)) (RecordNumber c.in_ok-first.first) (register g.P.OpenPhase.closings c.args.self.now.buses (book c.post_area.new.ledger) (book c.args.self.now.transactions))
+step : (g : given.Over) (c : goal.In_ok-first g) → Step (register_of c.args.self.now) (area (call c.args.participant c.args.tenths c.args.members.now)) (Ok (RecordNumber c.in_ok-first.first)) (register g.P.OpenPhase.closings c.args.self.now.buses (book c.post_area.new.ledger) (book c.args.self.now.transactions))
 step g c =
     let h = c.args.self.now in
     let ms = c.args.members.now in

@@ -1,10 +1,10 @@
-use Rattle.std.proofs.Common.{ℕ, sym, subst, arith}
+use Rattle.std.proofs.Common.{ℕ, sym, subst, arith, Ok, Err}
 use Rattle.std.proofs.lemmas.Result.{err_from_is_err_and}
 use Rattle.refusals.specs.declared.Cause.{Cause}
 use Rattle.ledgers.specs.Book.{book}
 use Rattle.positions.specs.Kinds.{transaction}
 use Rattle.positions.specs.declared.classes.Side.TheVariants.{Transacting}
-use Rattle.register.specs.declared.answers.Answer.TheVariants.{RecordNumber, Refused}
+use Rattle.register.specs.declared.answers.Accepted.TheVariants.{RecordNumber}
 use Rattle.hours.specs.Hours.{register_of}
 use Rattle.hours.proofs.Held.{lawful}
 use Rattle.register.specs.Register.{Transfer, transfer, Step}
@@ -45,7 +45,7 @@ returns-in_err-totals g c =
     let is = h.summed Transacting in
     let e = err_from_is_err_and c.from_residual.result c.from_residual.ensures.1 in
     let step = transfer_too_much r (phase_of g.P.OpenPhase.closings) (open_phase g.P.OpenPhase.closings h.buses (book h.positions) (book h.transactions) g.P.OpenPhase.few) a (c.if-source-self.false, c.if-sink-self.false) c.if-participant-gt-LAST_PARTICIPANT.false (omega (arith, over.1)) in
-    rw (e.1, e.2) (subst (λ (x : Cause). Step r (transfer a) (Refused x) r) (sym over.0) step)
+    rw (e.1, e.2) (subst (λ (x : Cause). Step r (transfer a) (Err x) r) (sym over.0) step)
 
 pub returns-then-source-sink : goal.returns-then-source-sink
 returns-then-source-sink g c =
@@ -67,7 +67,7 @@ returns-in_err-number g c =
     rw (e.1, e.2) step
 
 -- the step that is taken
-step : (g : given.Over) (c : goal.In_ok-number g) → Step (register_of c.args.self.now) (transfer (call c.args.participant c.args.source c.args.sink c.args.tenths)) (RecordNumber c.in_ok-number.number) (register g.P.OpenPhase.closings c.args.self.now.buses (book c.args.self.now.positions) (book c.post.new.self))
+step : (g : given.Over) (c : goal.In_ok-number g) → Step (register_of c.args.self.now) (transfer (call c.args.participant c.args.source c.args.sink c.args.tenths)) (Ok (RecordNumber c.in_ok-number.number)) (register g.P.OpenPhase.closings c.args.self.now.buses (book c.args.self.now.positions) (book c.post.new.self))
 step g c =
     let h = c.args.self.now in
     let a = call c.args.participant c.args.source c.args.sink c.args.tenths in

@@ -1,14 +1,15 @@
 use Rattle.ledgers.specs.Book.{book, closed_book}
 use Rattle.register.specs.Register.{Step, close}
 use Rattle.register.specs.Views.{register}
-use Rattle.register.specs.declared.answers.Answer.TheVariants.{Taken}
+use Rattle.register.specs.declared.answers.Accepted.TheVariants.{Taken}
 use Rattle.register.proofs.Closings.{end_step}
 use Rattle.register.proofs.Runs.{step_sound}
 use Rattle.hours.specs.Hours.{register_of}
 use Rattle.hours.proofs.hour.closing.Hour+RealTimePhase.close.Goals as goal
 use Rattle.hours.proofs.hour.closing.Hour+RealTimePhase.close.Goals.{After-finish-transactions}
+use Rattle.std.proofs.Common.{Ok}
 
-step : (c : goal.After-finish-transactions) → Step (register_of c.args.self) close Taken (register 2 c.args.self.buses (closed_book c.finish-positions.result) (closed_book c.finish-transactions.result))
+step : (c : goal.After-finish-transactions) → Step (register_of c.args.self) close (Ok Taken) (register 2 c.args.self.buses (closed_book c.finish-positions.result) (closed_book c.finish-transactions.result))
 step c =
     let h = c.args.self in
     let p = c.finish-positions in
