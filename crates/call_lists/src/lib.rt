@@ -69,8 +69,8 @@ fn make_calls<P: OpenPhase>(
     requires { length answers.old ≡ length calls.now }
     ensures { PhaseRun (register_of hour.old) (phase_of P.closings) calls.now answers.old result answers.new (register_of hour.new) }
 {
-    for i in 0..calls.len() {
-        let Some(answer) = make_call(hour, calls[i]) else {
+    for (i, &call) in calls.iter().enumerate() {
+        let Some(answer) = make_call(hour, call) else {
             answers[i] = Ok(Accepted::Taken);
             return Some(i);
         };

@@ -16,7 +16,7 @@ use std::marker::PhantomData;
 // Each ledger of an hour has at most this many records.
 pub const MAX_RECORDS: usize = 4_096;
 
-// Whether an hour may be made: the first step of making one.
+// Whether an hour may be made: the first step of making one. The slices are the caller's until the second, which takes the same.
 pub fn weigh_making(
     buses: u16,
     positions: &[BusPosition],
@@ -24,16 +24,11 @@ pub fn weigh_making(
 ) -> Result<(), Cause>
     ensures { Answered (MakingRefused buses (length positions.now) (length transactions.now)) result }
 {
-    if buses < 1 {
-        return Err(Cause::OutsideLimits);
-    }
-    if buses > MAX_BUSES {
-        return Err(Cause::OutsideLimits);
-    }
-    if positions.len() > MAX_RECORDS {
-        return Err(Cause::OutsideLimits);
-    }
-    if transactions.len() > MAX_RECORDS {
+    if buses < 1
+        || buses > MAX_BUSES
+        || positions.len() > MAX_RECORDS
+        || transactions.len() > MAX_RECORDS
+    {
         return Err(Cause::OutsideLimits);
     }
     Ok(())
