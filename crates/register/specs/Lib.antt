@@ -4,3 +4,4 @@ pub mod Sound
 pub mod Printed
 pub mod Views
 pub mod Weighed
+pub mod Amending
