@@ -41,12 +41,6 @@ module _ (n rooms roomt : ℕ) where
   pub making_first : MakingRefused n rooms roomt OutsideLimits → First (MakingRefused n rooms roomt) OutsideLimits
   making_first h = record { holds = h; least = making_least }
 
-  pub making_clear : 1 ≤ n → n ≤ 32 → rooms ≤ 4096 → roomt ≤ 4096 → Clear (MakingRefused n rooms roomt)
-  making_clear some few small short c (no_bus h) = omega arith
-  making_clear some few small short c (many_buses h) = omega arith
-  making_clear some few small short c (many_positions h) = omega arith
-  making_clear some few small short c (many_transactions h) = omega arith
-
   pub new_lawful : (u : Totals) (e : Book BusPosition) (f : Book Transaction) → Clear (MakingRefused n rooms roomt) → e ≡ empty BusPosition rooms → f ≡ empty Transaction roomt → u ≡ none → Lawful 0 n u e f
   new_lawful u e f clear p q z =
       record {
@@ -59,16 +53,10 @@ module _ (n rooms roomt : ℕ) where
 
 -- ---- weighing
 
-balanced_clear : (r : Register) (p : Phase) → total r p Withdrawing ≡ total r p Injecting → Clear (Holds r p close)
-balanced_clear r p e c (close_unbalanced ne) = ne e
-
 unbalanced_least : (r : Register) (p : Phase) (d : Cause) → Holds r p close d → 8 ≤ number d
 unbalanced_least r p d (close_unbalanced ne) = omega arith
 
 module _ {k n : ℕ} {t : Totals} {b : Book BusPosition} {d : Book Transaction} (h : Lawful k n t b d) where
-  pub close_clear : t.withdrawing ≡ t.injecting → Clear (Holds (register k n b d) (phase_of k) close)
-  close_clear e = balanced_clear (register k n b d) (phase_of k) (sym (h.summed Withdrawing) ∙ e ∙ h.summed Injecting)
-
   pub close_refused : (t.withdrawing ≡ t.injecting → ⊥) → Step (register k n b d) close (Err Unbalanced) (register k n b d)
   close_refused ne = stood (opened h) (record {
     holds = close_unbalanced (λ e. ne (h.summed Withdrawing ∙ e ∙ sym (h.summed Injecting)));
