@@ -1,5 +1,5 @@
 -- Runs that are joined: one more call at the end, and the two phases of an hour. Assumes nothing.
-use Rattle.std.proofs.Common.{◌≡◌, ℕ, suc, ◌+◌, ◌-◌, ◌<◌, ◌≤◌, ◌≢◌, List, [], ◌∷◌, ◌++◌, map, length, get_or, take, drop, set, Some, None, sym, refl, ap, ◌∙◌, subst, append-nil, arith, lit≤, take-add, Ok}
+use Rattle.std.proofs.Common.{◌≡◌, ℕ, ◌+◌, ◌-◌, ◌<◌, ◌≤◌, ◌≢◌, List, [], ◌∷◌, ◌++◌, map, length, get_or, take, drop, set, Some, None, sym, ap, ◌∙◌, subst, append-nil, arith, lit≤, take-add, Ok}
 use borrow.Rule.Slice.PartMut.{put_mid}
 use Rattle.std.proofs.lemmas.List.{take_all, drop_all, map_more, map-append, take-append-drop, length-take-le, length-drop, length-append, take_more_set, drop-set-lt, drop-drop, drop-append-le}
 use lib.Seq.{take-append-add}
@@ -12,7 +12,7 @@ use Rattle.refusals.specs.declared.Cause.{Cause}
 use Rattle.refusals.specs.declared.Cause.TheVariants.{RowLength}
 use Rattle.register.specs.Weighed.{MakingRefused}
 use Rattle.register.proofs.Closings.{making_least}
-use Rattle.register.specs.Register.{Register, Phase, Call, close, Step, took, closes, Run, done, next, Answer}
+use Rattle.register.specs.Register.{Register, Phase, Call, close, Step, Run, done, next, Answer}
 use Rattle.call_lists.specs.Runs.{call_of, PhaseRun, Replayed, ReplayRefused, other_length, making}
 
 run_join : {r s t : Register} {a b : List Call} {x y : List Answer} → Run r a x s → Run s b y t → Run r (a ++ b) (x ++ y) t

@@ -25,8 +25,12 @@ pub fn replay(
     calls: &[Call],
     answers: &mut [Answer],
 ) -> Result<Option<usize>, Cause>
-    ensures answer { Answered (ReplayRefused (length answers.old) (length calls.now) buses (length positions.old) (length transactions.old)) result }
-    ensures replayed { MatchResult result (Replayed (fresh buses (length positions.old) (length transactions.old)) calls.now answers.old answers.new) (λ _. answers.new ≡ answers.old) }
+    ensures answer { Answered (ReplayRefused (length answers.old) (length calls.now)
+        buses (length positions.old) (length transactions.old)) result }
+    ensures replayed { MatchResult result
+        (Replayed (fresh buses (length positions.old) (length transactions.old))
+        calls.now answers.old answers.new)
+        (λ _. answers.new ≡ answers.old) }
     ensures fixed { OneRun }
 {
     if answers.len() != calls.len() {
@@ -53,7 +57,10 @@ pub fn run_calls<P: OpenPhase>(
     answers: &mut [Answer],
 ) -> Result<Option<usize>, Cause>
     ensures answer { Answered (WrongLength (length answers.old) (length calls.now)) result }
-    ensures run { MatchResult result (λ at. PhaseRun (register_of hour.old) (phase_of P.closings) calls.now answers.old at answers.new (register_of hour.new)) (λ _. (answers.new ≡ answers.old) × (register_of hour.new ≡ register_of hour.old)) }
+    ensures run { MatchResult result
+        (λ at. PhaseRun (register_of hour.old) (phase_of P.closings)
+        calls.now answers.old at answers.new (register_of hour.new))
+        (λ _. (answers.new ≡ answers.old) × (register_of hour.new ≡ register_of hour.old)) }
 {
     if answers.len() != calls.len() {
         return Err(Cause::RowLength);
@@ -67,8 +74,10 @@ fn make_calls<P: OpenPhase>(
     answers: &mut [Answer],
 ) -> Option<usize>
     requires { length answers.old ≡ length calls.now }
-    ensures { PhaseRun (register_of hour.old) (phase_of P.closings) calls.now answers.old result answers.new (register_of hour.new) }
+    ensures { PhaseRun (register_of hour.old) (phase_of P.closings)
+        calls.now answers.old result answers.new (register_of hour.new) }
 {
+    // Written by its place: a proof knows nothing of what a zip with `iter_mut` wrote.
     for (i, &call) in calls.iter().enumerate() {
         let Some(answer) = make_call(hour, call) else {
             answers[i] = Ok(Accepted::Taken);
@@ -81,7 +90,8 @@ fn make_calls<P: OpenPhase>(
 
 // Makes one call, and answers it; a closing that may be taken is left to the caller, who goes over.
 pub fn make_call<P: OpenPhase>(hour: &mut Hour<P>, call: Call) -> Option<Answer>
-    ensures { Called (register_of hour.old) (phase_of P.closings) (call_of call.entry) result (register_of hour.new) }
+    ensures { Called (register_of hour.old) (phase_of P.closings) (call_of call.entry)
+        result (register_of hour.new) }
 {
     match call {
         Call::Post {

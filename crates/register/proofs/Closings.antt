@@ -15,7 +15,7 @@ use Rattle.register.specs.declared.answers.Accepted.TheVariants.{Taken}
 use Rattle.register.specs.declared.totals.Totals.{Totals}
 use Rattle.register.specs.Totals.{of_side}
 use Rattle.refusals.specs.Answers.{Clear, First}
-use Rattle.register.specs.Register.{Register, Kept, Phase, day_ahead, real_time, in_day_ahead, in_real_time, close, Holds, close_unbalanced, total, closes, Step, took, stood, with_positions, with_transactions, with_closings, in_phase, one_position, one_transaction}
+use Rattle.register.specs.Register.{Register, Kept, Phase, day_ahead, real_time, in_day_ahead, in_real_time, close, Holds, close_unbalanced, closes, Step, took, stood, with_positions, with_transactions, with_closings, in_phase, one_position, one_transaction}
 use Rattle.register.specs.Views.{phase_of, kept, register, Summed}
 use Rattle.register.specs.Weighed.{MakingRefused, no_bus, many_buses, many_positions, many_transactions}
 use Rattle.register.proofs.Lawful.{Lawful, Made, opened}

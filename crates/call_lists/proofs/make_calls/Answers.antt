@@ -12,4 +12,3 @@ loop-i-preserved g c = (
   run_more call_of c.args.calls.now c.loop-i.answers c.loop-i.i _ c.in-Some.answer c.loop-i-test.true (c.loop-i.auto.answers ∙ c.requires) c.loop-i.invariant.0 c.in-Some.ensures,
   rest_stays c.args.answers.now c.loop-i.answers c.loop-i.i c.in-Some.answer c.loop-i.invariant.1,
 )
-

@@ -15,14 +15,16 @@ use register::{OpenPhase, Totals};
 impl<'a, P: OpenPhase> Hour<'a, P> {
     // Replaces the M of a bus position.
     pub fn amend_position(&mut self, record: usize, tenths: u32) -> Result<(), Cause>
-        ensures { Step (register_of self.old) (amending_position «record» tenths) (done result) (register_of self.new) }
+        ensures { Step (register_of self.old) (amending_position «record» tenths)
+            (done result) (register_of self.new) }
     {
         amend(&mut self.positions, &mut self.totals, record, tenths)
     }
 
     // Replaces the M of a transaction.
     pub fn amend_transaction(&mut self, record: usize, tenths: u32) -> Result<(), Cause>
-        ensures { Step (register_of self.old) (amending_transaction «record» tenths) (done result) (register_of self.new) }
+        ensures { Step (register_of self.old) (amending_transaction «record» tenths)
+            (done result) (register_of self.new) }
     {
         amend(&mut self.transactions, &mut self.totals, record, tenths)
     }
@@ -35,7 +37,8 @@ fn amend<P: Position>(
     record: usize,
     tenths: u32,
 ) -> Result<(), Cause>
-    ensures amended { RecordAmended P.meaning P.Position.amended (book ledger.old) totals.old «record» tenths result (book ledger.new) totals.new }
+    ensures amended { RecordAmended P.meaning P.Position.amended (book ledger.old) totals.old
+        «record» tenths result (book ledger.new) totals.new }
     ensures slice { ledger.new.records.ghost_name ≡ ledger.old.records.ghost_name }
 {
     let old = ledger.open_at(record).ok_or(Cause::RecordNotOpen)?;

@@ -22,7 +22,8 @@ impl<'a, P: OpenPhase> Hour<'a, P> {
         bus: u16,
         tenths: u32,
     ) -> Result<usize, Cause>
-        ensures { Step (register_of self.old) (post_of participant class bus tenths) (numbered result) (register_of self.new) }
+        ensures { Step (register_of self.old) (post_of participant class bus tenths)
+            (numbered result) (register_of self.new) }
     {
         if bus >= self.buses {
             return Err(Cause::BusOutOfRange);
@@ -47,7 +48,8 @@ impl<'a, P: OpenPhase> Hour<'a, P> {
         sink: u16,
         tenths: u32,
     ) -> Result<usize, Cause>
-        ensures { Step (register_of self.old) (transferring participant source sink tenths) (numbered result) (register_of self.new) }
+        ensures { Step (register_of self.old) (transferring participant source sink tenths)
+            (numbered result) (register_of self.new) }
     {
         if source >= self.buses {
             return Err(Cause::BusOutOfRange);
@@ -76,7 +78,8 @@ impl<'a, P: OpenPhase> Hour<'a, P> {
         tenths: u32,
         members: &[AreaMember],
     ) -> Result<usize, Cause>
-        ensures { Step (register_of self.old) (spreading participant tenths members.now) (numbered result) (register_of self.new) }
+        ensures { Step (register_of self.old) (spreading participant tenths members.now)
+            (numbered result) (register_of self.new) }
     {
         weigh_members(members, self.buses)?;
         if participant > LAST_PARTICIPANT {
