@@ -1,7 +1,7 @@
 -- Every call keeps a register sound. Assumes nothing.
 use Rattle.std.proofs.Common.{◌≡◌, ℕ, suc, ◌+◌, ◌*◌, ◌<◌, ◌≤◌, ◌≢◌, List, [], ◌∷◌, ◌++◌, map, length, get_or, ℤ, sym, refl, ap, ◌∙◌, subst, ⊎_elim, zero-mul, arith}
-use Rattle.std.specs.List.{AllByRecursion}
-use Rattle.std.proofs.ByRecursion.{All-append, All-get_or, All-from_get_or}
+use Rattle.std.specs.Prelude.{All}
+use Rattle.std.proofs.lemmas.List.Elements.{All-nil, All-cons, All-head, All-tail, All-append, All-push, All-from_get_or}
 use Rattle.std.proofs.lemmas.Bool.{cases_eq}
 use Rattle.refusals.proofs.Numbers.{at_most}
 use Rattle.refusals.specs.Answers.{Clear}
@@ -29,24 +29,18 @@ PositionPlaced n k = (k.entry.participant < 16) × (k.entry.bus < n)
 abbrev pub TransactionPlaced : ℕ → Kept Transaction → Type 0
 TransactionPlaced n k = (k.entry.participant < 16) × (k.entry.source < n) × (k.entry.sink < n)
 
-module _ {A : Type 0} (P : A → Type 0) where
-  -- what holds at every place of a list, told by places and told of all its elements
-  pub of_all : (xs : List A) → AllByRecursion P xs → (i : ℕ) (d : A) → i < length xs → P (get_or xs i d)
-  of_all xs h i d l = All-get_or P xs i d l h
+all_replaced : {A : Type 0} (P : A → Type 0) (x y : A) → (P x → P y) → (before after : List A) → All P (before ++ (x ∷ after)) → All P (before ++ (y ∷ after))
+all_replaced P x y f [] after h = All-cons P y after (f (All-head P x after h)) (All-tail P x after h)
+all_replaced P x y f (b ∷ before) after h =
+    All-cons P b (before ++ (y ∷ after)) (All-head P b (before ++ (x ∷ after)) h) (all_replaced P x y f before after (All-tail P b (before ++ (x ∷ after)) h))
 
-  pub to_all : (xs : List A) → ((i : ℕ) (d : A) → i < length xs → P (get_or xs i d)) → AllByRecursion P xs
-  to_all [] h = tt
-  to_all (x ∷ xs) h = All-from_get_or P (x ∷ xs) x (λ i l. h i x l)
-
-  all_replaced : (x y : A) → (P x → P y) → (before after : List A) → AllByRecursion P (before ++ (x ∷ after)) → AllByRecursion P (before ++ (y ∷ after))
-  all_replaced x y f [] after h = (f h.0, h.1)
-  all_replaced x y f (b ∷ before) after h = (h.0, all_replaced x y f before after h.1)
-
-all_loads : (n : ℕ) (p : Phase) (who : ℕ) → who < 16 → (ms : List AreaMember) (zs : List ℤ) → AllByRecursion (λ m. m.bus < n) ms → AllByRecursion (PositionPlaced n) (map (in_phase p) (loads who ms zs))
-all_loads n p who h [] [] a = tt
-all_loads n p who h [] (z ∷ zs) a = tt
-all_loads n p who h (m ∷ ms) [] a = tt
-all_loads n p who h (m ∷ ms) (z ∷ zs) a = ((h, a.0), all_loads n p who h ms zs a.1)
+all_loads : (n : ℕ) (p : Phase) (who : ℕ) → who < 16 → (ms : List AreaMember) (zs : List ℤ) → All (λ (m : AreaMember). m.bus < n) ms → All (PositionPlaced n) (map (in_phase p) (loads who ms zs))
+all_loads n p who h [] [] a = All-nil (PositionPlaced n)
+all_loads n p who h [] (z ∷ zs) a = All-nil (PositionPlaced n)
+all_loads n p who h (m ∷ ms) [] a = All-nil (PositionPlaced n)
+all_loads n p who h (m ∷ ms) (z ∷ zs) a =
+    let inside : AreaMember → Type 0 = λ m. m.bus < n in
+    All-cons (PositionPlaced n) _ (map (in_phase p) (loads who ms zs)) (h, All-head inside m ms a) (all_loads n p who h ms zs (All-tail inside m ms a))
 
 -- ---- totals within the limit
 
@@ -88,10 +82,10 @@ module _ (r : Register) (p : Phase) (a : Side) (all : Limited r) where
 -- ---- closed phases
 
 nought : (a x : ℕ) → a ≡ 0 → a * x ≡ 0
-nought a x e = ap (λ z. z * x) e ∙ zero-mul x
+nought a x e = grind arith
 
 not_not : (a b : ℕ) → (a ≢ b → ⊥) → a ≡ b
-not_not a b f = ⊎_elim (λ e. e) (λ d. absurd (f d)) (cases_eq a b)
+not_not a b f = grind arith
 
 -- a call that ends no phase, and leaves what day-ahead counts once that is closed
 still : (r s : Register) (p : Phase) → Open r p → s.closings ≡ r.closings → ((side : Side) → one_if_phase p day_ahead ≡ 0 → total s day_ahead side ≡ total r day_ahead side) → Sound r → ClosedBalanced s
@@ -108,7 +102,7 @@ closed r real_time (in_real_time e) b h = (h.0, h.1, h.2, ((λ k. h.3.0 (omega a
 
 -- records are added to the positions: o is what they were refused for, were it so
 module _ (r : Register) (p : Phase) (o : Open r p) (h : Sound r) where
-  add_positions : (more : List (Kept BusPosition)) (m : ℕ) (a : Side) → AllByRecursion (PositionPlaced r.buses) more → total r p a + m ≤ 1000000 → ((q : Phase) (s : Side) → count_of (one_position q s) more ≡ one_if_phase p q * (one_if_side a s * m)) → Sound (with_positions r (r.positions ++ more))
+  add_positions : (more : List (Kept BusPosition)) (m : ℕ) (a : Side) → All (PositionPlaced r.buses) more → total r p a + m ≤ 1000000 → ((q : Phase) (s : Side) → count_of (one_position q s) more ≡ one_if_phase p q * (one_if_side a s * m)) → Sound (with_positions r (r.positions ++ more))
   add_positions more m a placed fit adds =
       let n = r.buses in
       let s = with_positions r (r.positions ++ more) in
@@ -117,7 +111,7 @@ module _ (r : Register) (p : Phase) (o : Open r p) (h : Sound r) where
       let new = adds q side in
       omega arith) in
       let b = still r s p o refl (λ side e. let w = was day_ahead side in let z = nought (one_if_phase p day_ahead) (one_if_side a side * m) e in omega arith) h in (
-        of_all (PositionPlaced n) (r.positions ++ more) (All-append (PositionPlaced n) r.positions more (to_all (PositionPlaced n) r.positions h.0) placed),
+        All-append (PositionPlaced n) r.positions more h.0 placed,
         h.1,
         (λ q side. subst (λ (t : ℕ). t ≤ 1000000) (sym (was q side)) (grows r p a h.2 m fit q side)),
         b,
@@ -133,7 +127,7 @@ module _ (r : Register) (p : Phase) (o : Open r p) (h : Sound r) where
       (let grown = count_push (one_transaction q side) r.transactions k in omega arith) in
       let b = still r s p o refl (λ side e. let w = was day_ahead side in let z = nought (one_if_phase p day_ahead) (one_if_side Transacting side * m) e in omega arith) h in (
         h.0,
-        of_all (TransactionPlaced n) (r.transactions ++ (k ∷ [])) (All-append (TransactionPlaced n) r.transactions (k ∷ []) (to_all (TransactionPlaced n) r.transactions h.1) (placed, tt)),
+        All-push (TransactionPlaced n) r.transactions k h.1 placed,
         (λ q side. subst (λ (t : ℕ). t ≤ 1000000) (sym (was q side)) (grows r p Transacting h.2 m fit q side)),
         b,
       )
@@ -152,7 +146,7 @@ module _ (r : Register) (p : Phase) (o : Open r p) (h : Sound r) where
       let three = count_middle g before new after in
       omega arith) in
       let b = still r s p o refl (λ side z. let w = was day_ahead side in let x = nought (one_if_phase p day_ahead) (one_if_side a side * tenths e.megawatts) z in let y = nought (one_if_phase p day_ahead) (one_if_side a side * m) z in omega arith) h in (
-        of_all (PositionPlaced n) (before ++ (new ∷ after)) (all_replaced (PositionPlaced n) old new (λ q. q) before after (subst (AllByRecursion (PositionPlaced n)) is (to_all (PositionPlaced n) r.positions h.0))),
+        all_replaced (PositionPlaced n) old new (λ q. q) before after (subst (All (PositionPlaced n)) is h.0),
         h.1,
         (λ q side. changes r p a h.2 (tenths e.megawatts) m (total s q side) q side fit (was q side)),
         b,
@@ -172,7 +166,7 @@ module _ (r : Register) (p : Phase) (o : Open r p) (h : Sound r) where
       omega arith) in
       let b = still r s p o refl (λ side z. let w = was day_ahead side in let x = nought (one_if_phase p day_ahead) (one_if_side Transacting side * tenths e.megawatts) z in let y = nought (one_if_phase p day_ahead) (one_if_side Transacting side * m) z in omega arith) h in (
         h.0,
-        of_all (TransactionPlaced n) (before ++ (new ∷ after)) (all_replaced (TransactionPlaced n) old new (λ q. q) before after (subst (AllByRecursion (TransactionPlaced n)) is (to_all (TransactionPlaced n) r.transactions h.1))),
+        all_replaced (TransactionPlaced n) old new (λ q. q) before after (subst (All (TransactionPlaced n)) is h.1),
         (λ q side. changes r p Transacting h.2 (tenths e.megawatts) m (total s q side) q side fit (was q side)),
         b,
       )
@@ -182,7 +176,7 @@ takes_sound r p o clear (posts a c names) h =
     let who : a.participant ≤ 15 = at_most _ _ (λ q. clear ParticipantOutOfRange (post_participant q)) in
     let there : r.buses ≤ a.bus → ⊥ = λ q. clear BusOutOfRange (post_bus q) in
     let fit = at_most _ _ (λ q. clear TotalOverLimit (post_total names q)) in
-    add_positions r p o h (in_phase p (position a.participant c a.bus a.amount) ∷ []) a.amount (side_of c) ((omega arith, omega arith), tt) fit (λ q s. omega arith)
+    add_positions r p o h (in_phase p (position a.participant c a.bus a.amount) ∷ []) a.amount (side_of c) (All-cons (PositionPlaced r.buses) _ [] (omega arith, omega arith) (All-nil (PositionPlaced r.buses))) fit (λ q s. omega arith)
 takes_sound r p o clear (transfers a) h =
     let who : a.participant ≤ 15 = at_most _ _ (λ q. clear ParticipantOutOfRange (transfer_participant q)) in
     let from : r.buses ≤ a.source → ⊥ = λ q. clear BusOutOfRange (transfer_source q) in
