@@ -37,9 +37,7 @@ rest_stays before answers i b e =
 run_over : (r s t : Register) (p : Phase) (calls : List program.Call) (before answers : List Answer) (i : ℕ) → PhaseRun r p calls before (Some i) answers s → Step s close (Ok Taken) t → Run r (map call_of (take (i + 1) calls)) (take (i + 1) answers) t
 run_over r s t p calls before answers i h step =
     let one = map_more call_of calls i Close h.0 ∙ ap (λ (a : Call). map call_of (take i calls) ++ (a ∷ [])) h.1 in
-    let run = run_push close (Ok Taken) h.2 step in
-    subst (λ (cs : List Call). Run r cs (take (i + 1) answers) t) (sym one)
-    (subst (λ (xs : List Answer). Run r (map call_of (take i calls) ++ (close ∷ [])) xs t) (sym h.3) run)
+    rw (one, h.3) (run_push close (Ok Taken) h.2 step)
 
 -- ---- a whole hour
 
@@ -49,8 +47,7 @@ module _ (r s t : Register) (p : Phase) (calls : List program.Call) (before earl
   run_both u q late is run =
       let whole : map call_of (take (i + 1) calls) ++ map call_of (drop (i + 1) calls) ≡ map call_of calls =
       sym (map-append call_of (take (i + 1) calls) (drop (i + 1) calls)) ∙ ap (map call_of) (take-append-drop (i + 1) calls) in
-      subst (λ (cs : List Call). Run r cs all u) whole
-      (subst (λ (xs : List Answer). Run r (map call_of (take (i + 1) calls) ++ map call_of (drop (i + 1) calls)) xs u) (sym is) (run_join (run_over r s t p calls before early i was over) run))
+      rw (← whole, is) (run_join (run_over r s t p calls before early i was over) run)
 
   run_twice : (u v : Register) (q : Phase) (lent late : List Answer) (j : ℕ) → length early ≡ length calls → all ≡ take (i + 1) early ++ late → PhaseRun t q (drop (i + 1) calls) lent (Some j) late u → Step u close (Ok Taken) v → (i + 1 + (j + 1) ≤ length calls) × Run r (map call_of (take (i + 1 + (j + 1)) calls)) (take (i + 1 + (j + 1)) all) v
   run_twice u v q lent late j same is then end =
@@ -66,8 +63,7 @@ module _ (r s t : Register) (p : Phase) (calls : List program.Call) (before earl
       let two : take (n + m) all ≡ take n early ++ take m late =
       ap (take (n + m)) is ∙ ap (λ (x : ℕ). take (x + m) (take n early ++ late)) (sym long) ∙ take-append-add (take n early) late m in (
         omega arith,
-        subst (λ (cs : List Call). Run r cs (take (n + m) all) v) one
-            (subst (λ (xs : List Answer). Run r (map call_of (take n calls) ++ map call_of (take m (drop n calls))) xs v) (sym two) run),
+        rw (← one, two) run,
       )
 
 -- a write to all that is behind n leaves what is before it, and then what was written

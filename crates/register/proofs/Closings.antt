@@ -1,5 +1,5 @@
 -- Making and closing as steps of the register. Assumes nothing.
-use Rattle.std.proofs.Common.{◌≡◌, ℕ, ◌≤◌, List, [], ◌∷◌, ◌++◌, map, length, take, drop, sym, refl, ap, ◌∙◌, subst, append-nil, arith, lit≤, Ok, Err}
+use Rattle.std.proofs.Common.{◌≡◌, ℕ, ◌≤◌, List, [], ◌∷◌, ◌++◌, map, length, take, drop, sym, refl, ap, ◌∙◌, append-nil, arith, lit≤, Ok, Err}
 use Rattle.std.proofs.lemmas.List.{map-append, take-append-drop, take_all, drop_all}
 use Rattle.quantities.specs.Sums.{count_of}
 use Rattle.refusals.specs.Causes.{number}
@@ -15,7 +15,7 @@ use Rattle.register.specs.declared.answers.Accepted.TheVariants.{Taken}
 use Rattle.register.specs.declared.totals.Totals.{Totals}
 use Rattle.register.specs.Totals.{of_side}
 use Rattle.refusals.specs.Answers.{Clear, First}
-use Rattle.register.specs.Register.{Register, Kept, Phase, day_ahead, real_time, in_day_ahead, in_real_time, close, Holds, close_unbalanced, closes, Step, took, stood, with_positions, with_transactions, with_closings, in_phase, one_position, one_transaction}
+use Rattle.register.specs.Register.{Register, Phase, day_ahead, real_time, in_day_ahead, in_real_time, close, Holds, close_unbalanced, closes, Step, took, stood, in_phase, one_position, one_transaction}
 use Rattle.register.specs.Views.{phase_of, kept, register, Summed}
 use Rattle.register.specs.Weighed.{MakingRefused, no_bus, many_buses, many_positions, many_transactions}
 use Rattle.register.proofs.Lawful.{Lawful, Made, opened}
@@ -88,13 +88,7 @@ no_transaction s [] = refl
 no_transaction s (x ∷ xs) = let rest = no_transaction s xs in omega arith
 
 over_step : (n : ℕ) (b e : Book BusPosition) (d f : Book Transaction) → Clear (Holds (register 0 n b d) day_ahead close) → e ≡ closed b → f ≡ closed d → Step (register 0 n b d) close (Ok Taken) (register 1 n e f)
-over_step n b e d f clear p q =
-    let r = register 0 n b d in
-    let step : Step r close (Ok Taken) (with_closings r 1) = took (in_day_ahead refl) clear closes in
-    let same : with_closings r 1 ≡ register 1 n (closed b) (closed d) =
-    ap (λ (xs : List (Kept BusPosition)). with_positions (with_closings r 1) xs) (kept_over b)
-    ∙ ap (λ (ys : List (Kept Transaction)). with_transactions (with_positions (with_closings r 1) (kept real_time (closed b))) ys) (kept_over d) in
-    rw (p, q) (subst (λ (x : Register). Step r close (Ok Taken) x) same step)
+over_step n b e d f clear p q = rw (p, q, ← kept_over b, ← kept_over d) (took (in_day_ahead refl) clear closes)
 
 -- day-ahead is closed, and real time is open
 pub day_ahead_closed : {n : ℕ} {t : Totals} {b : Book BusPosition} {d : Book Transaction} → Lawful 0 n t b d → (u : Totals) (e : Book BusPosition) (f : Book Transaction) → Clear (Holds (register 0 n b d) day_ahead close) → e ≡ closed b → f ≡ closed d → u ≡ none → Made (register 0 n b d) close (Ok Taken) 1 n u e f

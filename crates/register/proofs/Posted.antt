@@ -1,5 +1,5 @@
 -- A posting, a transaction and an area on the books of an hour, as steps of its register. Assumes nothing.
-use Rattle.std.proofs.Common.{◌≡◌, ℕ, ◌+◌, ◌<◌, ◌≤◌, List, [], ◌∷◌, ◌++◌, map, length, Ok, Err, sym, ap, ◌∙◌, subst, arith}
+use Rattle.std.proofs.Common.{◌≡◌, ℕ, ◌+◌, ◌<◌, ◌≤◌, [], ◌∷◌, ◌++◌, length, Ok, Err, ap, ◌∙◌, arith}
 use Rattle.refusals.proofs.Numbers.{at_most}
 use Rattle.refusals.specs.Answers.{Clear, First}
 use Rattle.refusals.specs.Causes.{number}
@@ -18,7 +18,7 @@ use Rattle.positions.specs.declared.classes.Side.TheVariants.{Withdrawing, Trans
 use Rattle.register.specs.declared.answers.Accepted.TheVariants.{RecordNumber}
 use Rattle.register.specs.declared.totals.Totals.{Totals}
 use Rattle.register.specs.Totals.{Amended}
-use Rattle.register.specs.Register.{Kept, Posting, Transfer, Area, post, transfer, area, area_loads, Names, total, Step, with_positions, with_transactions, in_phase}
+use Rattle.register.specs.Register.{Posting, Transfer, Area, post, transfer, area, area_loads, Names, total, Step}
 use Rattle.register.specs.Views.{phase_of, register}
 use Rattle.register.proofs.Kept.{kept_length, kept_more}
 use Rattle.register.proofs.Lawful.{Lawful, Made, opened, positions_added, transactions_added}
@@ -54,9 +54,7 @@ module _ {k n : ℕ} {t : Totals} {b : Book BusPosition} {d : Book Transaction} 
           let long = kept_length p b in
           let more = kept_more p b (y ∷ []) h.marked.0.0 in
           let step = post_taken (opened h) a bus who c names (within (side_of c) a.amount u new) (omega (arith, put.0)) in
-          let on_books = subst (λ (z : Book BusPosition). Step r (post a) (Ok (RecordNumber i)) (register k n z d)) (sym grown)
-          (subst (λ (xs : List (Kept BusPosition)). Step r (post a) (Ok (RecordNumber i)) (with_positions r xs)) (sym more)
-          (subst (λ (j : ℕ). Step r (post a) (Ok (RecordNumber j)) (with_positions r (r.positions ++ (in_phase p y ∷ [])))) (long ∙ sym put.1) step)) in
+          let on_books : Step r (post a) (Ok (RecordNumber i)) (register k n e d) = rw (grown, more, put.1, ← long) step in
           positions_added h (side_of c) a.amount u new (y ∷ []) e (λ q s. omega arith) grown on_books
 
   -- ---- a transaction
@@ -84,9 +82,7 @@ module _ {k n : ℕ} {t : Totals} {b : Book BusPosition} {d : Book Transaction} 
             let long = kept_length p d in
             let more = kept_more p d (y ∷ []) h.marked.1.0 in
             let step = transfer_taken (opened h) a buses who (within Transacting a.amount u new) apart (omega (arith, put.0)) in
-            let on_books = subst (λ (z : Book Transaction). Step r (transfer a) (Ok (RecordNumber i)) (register k n b z)) (sym grown)
-            (subst (λ (xs : List (Kept Transaction)). Step r (transfer a) (Ok (RecordNumber i)) (with_transactions r xs)) (sym more)
-            (subst (λ (j : ℕ). Step r (transfer a) (Ok (RecordNumber j)) (with_transactions r (r.transactions ++ (in_phase p y ∷ [])))) (long ∙ sym put.1) step)) in
+            let on_books : Step r (transfer a) (Ok (RecordNumber i)) (register k n b e) = rw (grown, more, put.1, ← long) step in
             transactions_added h Transacting a.amount u new (y ∷ []) e (λ q s. omega arith) grown on_books
 
   -- ---- an area
@@ -123,7 +119,5 @@ module _ {k n : ℕ} {t : Totals} {b : Book BusPosition} {d : Book Transaction} 
           let long = kept_length p b in
           let more = kept_more p b xs h.marked.0.0 in
           let step = area_taken (opened h) a buses who (within Withdrawing a.amount u new) (omega arith) all in
-          let on_books = subst (λ (z : Book BusPosition). Step r (area a) (Ok (RecordNumber i)) (register k n z d)) (sym grown)
-          (subst (λ (ys : List (Kept BusPosition)). Step r (area a) (Ok (RecordNumber i)) (with_positions r ys)) (sym more)
-          (subst (λ (j : ℕ). Step r (area a) (Ok (RecordNumber j)) (with_positions r (r.positions ++ map (in_phase p) xs))) (long ∙ sym at-end) step)) in
+          let on_books : Step r (area a) (Ok (RecordNumber i)) (register k n e d) = rw (grown, more, at-end, ← long) step in
           positions_added h Withdrawing a.amount u new xs e (λ q s. count_area (phase_of k) q s a all) grown on_books

@@ -1,8 +1,7 @@
 -- Every call keeps a register sound. Assumes nothing.
-use Rattle.std.proofs.Common.{◌≡◌, ℕ, suc, ◌+◌, ◌*◌, ◌<◌, ◌≤◌, ◌≢◌, List, [], ◌∷◌, ◌++◌, map, length, get_or, ℤ, sym, refl, ap, ◌∙◌, subst, ⊎_elim, zero-mul, arith}
+use Rattle.std.proofs.Common.{◌≡◌, ℕ, suc, ◌+◌, ◌*◌, ◌<◌, ◌≤◌, ◌≢◌, List, [], ◌∷◌, ◌++◌, map, length, get_or, ℤ, sym, refl, ap, ◌∙◌, subst, arith}
 use Rattle.std.specs.Prelude.{All}
 use Rattle.std.proofs.lemmas.List.Elements.{All-nil, All-cons, All-head, All-tail, All-append, All-push, All-from_get_or}
-use Rattle.std.proofs.lemmas.Bool.{cases_eq}
 use Rattle.refusals.proofs.Numbers.{at_most}
 use Rattle.refusals.specs.Answers.{Clear}
 use Rattle.refusals.specs.declared.Cause.TheVariants.{BusOutOfRange, ParticipantOutOfRange, TotalOverLimit, AreaNotWhole, Unbalanced}
@@ -44,13 +43,6 @@ all_loads n p who h (m ∷ ms) (z ∷ zs) a =
 
 -- ---- totals within the limit
 
--- m more in one phase
-phase_grows : (p q : Phase) (x : Phase → ℕ) (m : ℕ) → x q ≤ 1000000 → x p + m ≤ 1000000 → x q + one_if_phase p q * m ≤ 1000000
-phase_grows day_ahead day_ahead x m h k = omega arith
-phase_grows day_ahead real_time x m h k = omega arith
-phase_grows real_time day_ahead x m h k = omega arith
-phase_grows real_time real_time x m h k = omega arith
-
 -- m for o in one phase
 phase_changes : (p q : Phase) (x : Phase → ℕ) (o m t : ℕ) → t + one_if_phase p q * o ≡ x q + one_if_phase p q * m → x q ≤ 1000000 → x p + m ≤ 1000000 + o → t ≤ 1000000
 phase_changes day_ahead day_ahead x o m t e h k = omega arith
@@ -69,15 +61,6 @@ side_changes Injecting Transacting x o m h k = omega arith
 side_changes Transacting Withdrawing x o m h k = omega arith
 side_changes Transacting Injecting x o m h k = omega arith
 side_changes Transacting Transacting x o m h k = omega arith
-
-module _ (r : Register) (p : Phase) (a : Side) (all : Limited r) where
-  grows : (m : ℕ) → total r p a + m ≤ 1000000 → (q : Phase) (s : Side) → total r q s + one_if_phase p q * (one_if_side a s * m) ≤ 1000000
-  grows m fit q s =
-      let on_side = side_changes a s (total r p) 0 m (all p s) (omega arith) in
-      phase_grows p q (λ z. total r z s) (one_if_side a s * m) (all q s) (omega arith)
-
-  changes : (o m t : ℕ) (q : Phase) (s : Side) → total r p a + m ≤ 1000000 + o → t + one_if_phase p q * (one_if_side a s * o) ≡ total r q s + one_if_phase p q * (one_if_side a s * m) → t ≤ 1000000
-  changes o m t q s fit e = phase_changes p q (λ z. total r z s) (one_if_side a s * o) (one_if_side a s * m) t e (all q s) (side_changes a s (total r p) o m (all p s) fit)
 
 -- ---- closed phases
 
@@ -100,76 +83,48 @@ closed r real_time (in_real_time e) b h = (h.0, h.1, h.2, ((λ k. h.3.0 (omega a
 
 -- ---- one call
 
--- records are added to the positions: o is what they were refused for, were it so
 module _ (r : Register) (p : Phase) (o : Open r p) (h : Sound r) where
+  -- a side of the open phase has m for what was there, and every other total stays
+  totals_kept : (s : Register) (a : Side) (was m : ℕ) → s.closings ≡ r.closings → total r p a + m ≤ 1000000 + was → ((q : Phase) (side : Side) → total s q side + one_if_phase p q * (one_if_side a side * was) ≡ total r q side + one_if_phase p q * (one_if_side a side * m)) → Limited s × ClosedBalanced s
+  totals_kept s a was m same fit sums = (
+    (λ q side. phase_changes p q (λ z. total r z side) (one_if_side a side * was) (one_if_side a side * m) (total s q side) (sums q side) (h.2 q side) (side_changes a side (total r p) was m (h.2 p side) fit)),
+    still r s p o same (λ side z. let w = sums day_ahead side in let x = nought (one_if_phase p day_ahead) (one_if_side a side * was) z in let y = nought (one_if_phase p day_ahead) (one_if_side a side * m) z in omega arith) h,
+  )
+
   add_positions : (more : List (Kept BusPosition)) (m : ℕ) (a : Side) → All (PositionPlaced r.buses) more → total r p a + m ≤ 1000000 → ((q : Phase) (s : Side) → count_of (one_position q s) more ≡ one_if_phase p q * (one_if_side a s * m)) → Sound (with_positions r (r.positions ++ more))
   add_positions more m a placed fit adds =
-      let n = r.buses in
-      let s = with_positions r (r.positions ++ more) in
-      let was : (q : Phase) (side : Side) → total s q side ≡ total r q side + one_if_phase p q * (one_if_side a side * m) = λ q side.
-      (let grown = count_append (one_position q side) r.positions more in
-      let new = adds q side in
-      omega arith) in
-      let b = still r s p o refl (λ side e. let w = was day_ahead side in let z = nought (one_if_phase p day_ahead) (one_if_side a side * m) e in omega arith) h in (
-        All-append (PositionPlaced n) r.positions more h.0 placed,
-        h.1,
-        (λ q side. subst (λ (t : ℕ). t ≤ 1000000) (sym (was q side)) (grows r p a h.2 m fit q side)),
-        b,
-      )
+      let kept = totals_kept (with_positions r (r.positions ++ more)) a 0 m refl (omega arith) (λ q side. let grown = count_append (one_position q side) r.positions more in let new = adds q side in omega arith) in
+      (All-append (PositionPlaced r.buses) r.positions more h.0 placed, h.1, kept.0, kept.1)
 
   add_transaction : (x : Transaction) → TransactionPlaced r.buses (in_phase p x) → total r p Transacting + tenths x.megawatts ≤ 1000000 → Sound (with_transactions r (r.transactions ++ (in_phase p x ∷ [])))
   add_transaction x placed fit =
-      let n = r.buses in
-      let m = tenths x.megawatts in
       let k : Kept Transaction = in_phase p x in
-      let s = with_transactions r (r.transactions ++ (k ∷ [])) in
-      let was : (q : Phase) (side : Side) → total s q side ≡ total r q side + one_if_phase p q * (one_if_side Transacting side * m) = λ q side.
-      (let grown = count_push (one_transaction q side) r.transactions k in omega arith) in
-      let b = still r s p o refl (λ side e. let w = was day_ahead side in let z = nought (one_if_phase p day_ahead) (one_if_side Transacting side * m) e in omega arith) h in (
-        h.0,
-        All-push (TransactionPlaced n) r.transactions k h.1 placed,
-        (λ q side. subst (λ (t : ℕ). t ≤ 1000000) (sym (was q side)) (grows r p Transacting h.2 m fit q side)),
-        b,
-      )
+      let kept = totals_kept (with_transactions r (r.transactions ++ (k ∷ []))) Transacting 0 (tenths x.megawatts) refl (omega arith) (λ q side. let grown = count_push (one_transaction q side) r.transactions k in omega arith) in
+      (h.0, All-push (TransactionPlaced r.buses) r.transactions k h.1 placed, kept.0, kept.1)
 
   change_position : (m : ℕ) (e : BusPosition) (before after : List (Kept BusPosition)) → r.positions ≡ before ++ (in_phase p e ∷ after) → total r p (side_of e.class) + m ≤ 1000000 + tenths e.megawatts → Sound (with_positions r (before ++ (in_phase p (amended_position e m) ∷ after)))
   change_position m e before after is fit =
-      let n = r.buses in
       let old : Kept BusPosition = in_phase p e in
       let new : Kept BusPosition = in_phase p (amended_position e m) in
-      let a = side_of e.class in
-      let s = with_positions r (before ++ (new ∷ after)) in
-      let was : (q : Phase) (side : Side) → total s q side + one_if_phase p q * (one_if_side a side * tenths e.megawatts) ≡ total r q side + one_if_phase p q * (one_if_side a side * m) = λ q side.
+      let kept = totals_kept (with_positions r (before ++ (new ∷ after))) (side_of e.class) (tenths e.megawatts) m refl fit (λ q side.
       (let g = one_position q side in
       let one = ap (count_of g) is in
       let two = count_middle g before old after in
       let three = count_middle g before new after in
-      omega arith) in
-      let b = still r s p o refl (λ side z. let w = was day_ahead side in let x = nought (one_if_phase p day_ahead) (one_if_side a side * tenths e.megawatts) z in let y = nought (one_if_phase p day_ahead) (one_if_side a side * m) z in omega arith) h in (
-        all_replaced (PositionPlaced n) old new (λ q. q) before after (subst (All (PositionPlaced n)) is h.0),
-        h.1,
-        (λ q side. changes r p a h.2 (tenths e.megawatts) m (total s q side) q side fit (was q side)),
-        b,
-      )
+      omega arith)) in
+      (all_replaced (PositionPlaced r.buses) old new (λ q. q) before after (subst (All (PositionPlaced r.buses)) is h.0), h.1, kept.0, kept.1)
 
   change_transaction : (m : ℕ) (e : Transaction) (before after : List (Kept Transaction)) → r.transactions ≡ before ++ (in_phase p e ∷ after) → total r p Transacting + m ≤ 1000000 + tenths e.megawatts → Sound (with_transactions r (before ++ (in_phase p (amended_transaction e m) ∷ after)))
   change_transaction m e before after is fit =
-      let n = r.buses in
       let old : Kept Transaction = in_phase p e in
       let new : Kept Transaction = in_phase p (amended_transaction e m) in
-      let s = with_transactions r (before ++ (new ∷ after)) in
-      let was : (q : Phase) (side : Side) → total s q side + one_if_phase p q * (one_if_side Transacting side * tenths e.megawatts) ≡ total r q side + one_if_phase p q * (one_if_side Transacting side * m) = λ q side.
+      let kept = totals_kept (with_transactions r (before ++ (new ∷ after))) Transacting (tenths e.megawatts) m refl fit (λ q side.
       (let g = one_transaction q side in
       let one = ap (count_of g) is in
       let two = count_middle g before old after in
       let three = count_middle g before new after in
-      omega arith) in
-      let b = still r s p o refl (λ side z. let w = was day_ahead side in let x = nought (one_if_phase p day_ahead) (one_if_side Transacting side * tenths e.megawatts) z in let y = nought (one_if_phase p day_ahead) (one_if_side Transacting side * m) z in omega arith) h in (
-        h.0,
-        all_replaced (TransactionPlaced n) old new (λ q. q) before after (subst (All (TransactionPlaced n)) is h.1),
-        (λ q side. changes r p Transacting h.2 (tenths e.megawatts) m (total s q side) q side fit (was q side)),
-        b,
-      )
+      omega arith)) in
+      (h.0, all_replaced (TransactionPlaced r.buses) old new (λ q. q) before after (subst (All (TransactionPlaced r.buses)) is h.1), kept.0, kept.1)
 
 takes_sound : (r : Register) (p : Phase) {a : Call} {b : Answer} {s : Register} → Open r p → Clear (Holds r p a) → Takes r p a b s → Sound r → Sound s
 takes_sound r p o clear (posts a c names) h =
