@@ -18,6 +18,7 @@ use register::{Accepted, Answer, OpenPhase};
 
 // Makes a list of calls on a new hour over the slices that the caller lends, and writes the answer to each.
 // The second closing that is taken ends the list: then it answers how many calls were made.
+// The answers stand in a row that the caller lends, since an hour has no heap.
 pub fn replay(
     buses: u16,
     positions: &mut [BusPosition],

@@ -67,7 +67,7 @@ impl Position for BusPosition {
 
     // All of it is at its one bus.
     fn ends(&self) -> Ends {
-        let tenths = self.megawatts.0.unsigned_abs();
+        let tenths = self.tenths();
         let (withdrawn, injected, load) = match self.class {
             Class::Load => (tenths, 0, tenths),
             Class::DecrementBid => (tenths, 0, 0),

@@ -66,7 +66,7 @@ impl Position for Transaction {
     }
 
     fn ends(&self) -> Ends {
-        let tenths = self.megawatts.0.unsigned_abs();
+        let tenths = self.tenths();
         Ends {
             sink: self.sink,
             withdrawn: tenths,
