@@ -1,14 +1,12 @@
 -- The calls that a program makes, as the register is fed them, and what a list of them leaves. Assumes nothing.
-use Rattle.std.specs.Prelude.{◌≡◌, ℕ, ◌+◌, ◌<◌, ◌≤◌, Bool, true, false, ◌≢◌, List, [], ◌∷◌, ◌++◌, map, length, take, drop, Some, None, Option, slice_index_or}
+use Rattle.std.specs.Prelude.{◌≡◌, ℕ, ◌+◌, ◌<◌, ◌≤◌, ◌≢◌, List, [], ◌∷◌, ◌++◌, map, length, take, drop, Some, None, Option, unwrap_or, slice_index_or, Ok}
 use Rattle.refusals.specs.Answers.{Clear}
 use Rattle.refusals.specs.declared.Cause.{Cause}
 use Rattle.refusals.specs.declared.Cause.TheVariants.{RowLength}
-use Rattle.register.specs.declared.answers.Answer.{Answer}
-use Rattle.register.specs.declared.answers.Answer.TheVariants.{Taken}
+use Rattle.register.specs.declared.answers.Accepted.TheVariants.{Taken}
 use Rattle.call_lists.specs.declared.calls.Call as program
 use Rattle.call_lists.specs.declared.calls.Call.TheVariants.{Post, PostTransaction, PostArea, AmendPosition, AmendTransaction, Close}
-use Rattle.call_lists.specs.declared.Progress.{Progress}
-use Rattle.register.specs.Register.{Register, Phase, Call, amend_position, amend_transaction, close, Holds, Step, Run}
+use Rattle.register.specs.Register.{Register, Phase, Call, amend_position, amend_transaction, close, Holds, Step, Run, Answer}
 use Rattle.register.specs.Views.{posting, transferring, spreading}
 use Rattle.register.specs.Weighed.{MakingRefused}
 
@@ -32,25 +30,29 @@ PhaseRun r p calls before (Some i) after s =
     (i < length calls)
     × (call_of (slice_index_or calls i Close) ≡ close)
     × Run r (map call_of (take i calls)) (take i after) s
-    × (take (i + 1) after ≡ take i after ++ (Taken ∷ []))
+    × (take (i + 1) after ≡ take i after ++ (Ok Taken ∷ []))
     × Clear (Holds s p close)
     × (drop (i + 1) after ≡ drop (i + 1) before)
 PhaseRun r p calls before None after s = Run r (map call_of calls) after s
 
 -- ---- a whole hour
 
--- it is closed, or all calls were made and it is not
-abbrev pub Ended : Bool → ℕ → ℕ → Register → Type 0
-Ended true made all s = s.closings ≡ 2
-Ended false made all s = (s.closings < 2) × (made ≡ all)
+-- the calls that were made: those that closed the hour, or all
+abbrev pub made_of : Option ℕ → List program.Call → ℕ
+made_of closed calls = unwrap_or closed (length calls)
+
+-- it is closed, or it is not
+abbrev pub Ended : Option ℕ → Register → Type 0
+Ended (Some _) s = s.closings ≡ 2
+Ended None s = s.closings < 2
 
 -- the calls that were made, from the first, and what they leave; the answers behind them stand as before
-pub record Replayed (start : Register) (calls : List program.Call) (before after : List Answer) (out : Progress) : Type 0 where
+pub record Replayed (start : Register) (calls : List program.Call) (before after : List Answer) (closed : Option ℕ) : Type 0 where
   pub end : Register
-  pub within : out.made ≤ length calls
-  pub run : Run start (map call_of (take out.made calls)) (take out.made after) end
-  pub rest : drop out.made after ≡ drop out.made before
-  pub ended : Ended out.closed out.made (length calls) end
+  pub within : made_of closed calls ≤ length calls
+  pub run : Run start (map call_of (take (made_of closed calls) calls)) (take (made_of closed calls) after) end
+  pub rest : drop (made_of closed calls) after ≡ drop (made_of closed calls) before
+  pub ended : Ended closed end
 
 pub data ReplayRefused (places calls n rooms roomt : ℕ) : Cause → Type 0 where
   other_length : places ≢ calls → ReplayRefused places calls n rooms roomt RowLength

@@ -4,7 +4,8 @@
 use apportion::AreaMember;
 use hours::{ClosedHour, DayAhead, Hour, RealTime, weigh_making};
 use positions::{BusPosition, Class, Position, Transaction};
-use refusals::Cause;
+use register::Accepted::{RecordNumber, Taken};
+use register::Answer;
 use std::io;
 
 fn main(rt: HostRuntime) -> anyhow::Result<()> {
@@ -30,16 +31,32 @@ fn run(rt: &HostRuntime) -> anyhow::Result<()> {
 }
 
 fn day_ahead(rt: &HostRuntime, hour: &mut DayAhead) -> io::Result<()> {
-    posted(rt, "load 1000 at bus 1", hour.post(0, 1, 1, 1_000))?;
-    posted(rt, "generation 900 at bus 0", hour.post(1, 3, 0, 900))?;
-    posted(rt, "load 5 at bus 2", hour.post(0, 1, 2, 5))?;
+    answered(
+        rt,
+        "load 1000 at bus 1",
+        hour.post(0, 1, 1, 1_000).map(RecordNumber),
+    )?;
+    answered(
+        rt,
+        "generation 900 at bus 0",
+        hour.post(1, 3, 0, 900).map(RecordNumber),
+    )?;
+    answered(
+        rt,
+        "load 5 at bus 2",
+        hour.post(0, 1, 2, 5).map(RecordNumber),
+    )?;
     let moved = hour.post_transaction(2, 0, 1, 50);
-    posted(rt, "transaction 50 from bus 0 to bus 1", moved)?;
-    taken(rt, "closing", hour.weigh_closing())?;
-    taken(
+    answered(
+        rt,
+        "transaction 50 from bus 0 to bus 1",
+        moved.map(RecordNumber),
+    )?;
+    answered(rt, "closing", hour.weigh_closing().map(|()| Taken))?;
+    answered(
         rt,
         "record 1 amended to 1000",
-        hour.amend_position(1, 1_000),
+        hour.amend_position(1, 1_000).map(|()| Taken),
     )
 }
 
@@ -54,28 +71,32 @@ fn real_time(rt: &HostRuntime, hour: &mut RealTime) -> io::Result<()> {
             share: 6_667,
         },
     ];
-    posted(rt, "decrement bid 7 at bus 1", hour.post(0, 2, 1, 7))?;
-    taken(rt, "record 0 amended to 0", hour.amend_position(0, 0))?;
-    posted(
+    answered(
+        rt,
+        "decrement bid 7 at bus 1",
+        hour.post(0, 2, 1, 7).map(RecordNumber),
+    )?;
+    answered(
+        rt,
+        "record 0 amended to 0",
+        hour.amend_position(0, 0).map(|()| Taken),
+    )?;
+    answered(
         rt,
         "area 901 over both buses",
-        hour.post_area(0, 901, &members),
+        hour.post_area(0, 901, &members).map(RecordNumber),
     )?;
-    posted(rt, "generation 901 at bus 0", hour.post(1, 3, 0, 901))
+    answered(
+        rt,
+        "generation 901 at bus 0",
+        hour.post(1, 3, 0, 901).map(RecordNumber),
+    )
 }
 
-// The answer to a posting.
-fn posted(rt: &HostRuntime, what: &str, answer: Result<usize, Cause>) -> io::Result<()> {
+// What a call answers: that it is taken, or why it is refused.
+fn answered(rt: &HostRuntime, what: &str, answer: Answer) -> io::Result<()> {
     match answer {
-        Ok(number) => println!(rt; "   {what}: record {number}"),
-        Err(cause) => println!(rt; "   {what}: {cause}"),
-    }
-}
-
-// The answer to any other call.
-fn taken(rt: &HostRuntime, what: &str, answer: Result<(), Cause>) -> io::Result<()> {
-    match answer {
-        Ok(()) => println!(rt; "   {what}: taken"),
+        Ok(accepted) => println!(rt; "   {what}: {accepted}"),
         Err(cause) => println!(rt; "   {what}: {cause}"),
     }
 }

@@ -1,13 +1,12 @@
 -- The register that an hour stands for. Assumes nothing.
-use Rattle.std.specs.Prelude.{ℕ}
 use Rattle.ledgers.specs.Book.{book, closed_book}
 use Rattle.hours.specs.declared.hour.ClosedHour.{ClosedHour}
 use Rattle.hours.specs.declared.hour.Hour.{Hour}
 use Rattle.register.specs.Register.{Register}
 use Rattle.register.specs.Views.{register}
 
-abbrev pub register_of : {k : ℕ} → Hour k → Register
-register_of {k} h = register k h.buses (book h.positions) (book h.transactions)
+abbrev pub register_of : {P : _} {p : _} → Hour P p → Register
+register_of {p} h = register p.closings h.buses (book h.positions) (book h.transactions)
 
 abbrev pub closed_register : ClosedHour → Register
 closed_register h = register 2 h.buses (closed_book h.positions) (closed_book h.transactions)

@@ -1,8 +1,7 @@
 // The hour in its three states.
 ghost use Rattle.ledgers.specs.Book.{book, closed_book};
-ghost use Rattle.register.specs.Lawful.{Lawful};
 ghost use Rattle.register.specs.Sound.{Sound};
-ghost use Rattle.register.specs.Views.{register};
+ghost use Rattle.register.specs.Views.{Marked, Sized, Summed, phase_of, register};
 
 mod amending;
 mod closing;
@@ -10,23 +9,29 @@ mod making;
 mod posting;
 mod reading;
 
-pub use self::making::{MAX_RECORDS, weigh_making};
+pub use self::making::weigh_making;
 use ledgers::{ClosedLedger, Ledger};
 use positions::{BusPosition, Transaction};
-use register::Totals;
+use register::{DayAheadPhase, OpenPhase, RealTimePhase, Totals};
+use std::marker::PhantomData;
 
-pub type DayAhead<'a> = Hour<'a, 0>;
+pub type DayAhead<'a> = Hour<'a, DayAheadPhase>;
 
-pub type RealTime<'a> = Hour<'a, 1>;
+pub type RealTime<'a> = Hour<'a, RealTimePhase>;
 
-// An hour with a phase open; PHASE is the number of closings before.
+// An hour with the phase P open.
 #[derive(Drop)]
-pub struct Hour<'a, const PHASE: u8> {
+pub struct Hour<'a, P: OpenPhase> {
     buses: u16,
     positions: Ledger<'a, BusPosition>,
     transactions: Ledger<'a, Transaction>,
     totals: Totals,
-    ghost lawful: { ∥ Lawful PHASE buses totals (book positions) (book transactions) ∥₁ },
+    phase: PhantomData<P>,
+    ghost marked: { Marked P.closings (book positions) × Marked P.closings (book transactions) },
+    ghost summed: { Summed totals (register P.closings buses (book positions) (book transactions))
+        (phase_of P.closings) },
+    ghost sized: { Sized (book positions) × Sized (book transactions) },
+    ghost sound: { Sound (register P.closings buses (book positions) (book transactions)) },
 }
 
 // Records of both ledgers: parts of the slices that the caller lent.
@@ -42,5 +47,5 @@ pub struct ClosedHour<'a> {
     buses: u16,
     positions: ClosedLedger<'a, BusPosition>,
     transactions: ClosedLedger<'a, Transaction>,
-    ghost sound: { ∥ Sound (register 2 buses (closed_book positions) (closed_book transactions)) ∥₁ },
+    ghost sound: { Sound (register 2 buses (closed_book positions) (closed_book transactions)) },
 }

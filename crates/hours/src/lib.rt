@@ -3,4 +3,5 @@
 
 mod hour;
 
-pub use hour::{ClosedHour, DayAhead, Hour, MAX_RECORDS, RealTime, Records, weigh_making};
+pub use hour::{ClosedHour, DayAhead, Hour, RealTime, Records, weigh_making};
+pub use ledgers::MAX_RECORDS;

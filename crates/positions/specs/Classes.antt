@@ -1,9 +1,22 @@
--- What each class withdraws, injects and loads, and the total that it counts in. Assumes nothing.
-use Rattle.std.specs.Prelude.{ℕ, ℤ, pos, neg_ℤ}
+-- The number of each class, what it withdraws, injects and loads, and the total that it counts in. Assumes nothing.
+use Rattle.std.specs.Prelude.{◌≡◌, ◌≢◌, ℕ, ℤ, pos, neg_ℤ, Ok, Err, Result}
+use Rattle.refusals.specs.declared.Cause.{Cause}
+use Rattle.refusals.specs.declared.Cause.TheVariants.{ClassNotTaken}
 use Rattle.positions.specs.declared.classes.Class.{Class}
 use Rattle.positions.specs.declared.classes.Class.TheVariants.{Load, DecrementBid, Generation, IncrementOffer}
 use Rattle.positions.specs.declared.classes.Side.{Side}
 use Rattle.positions.specs.declared.classes.Side.TheVariants.{Withdrawing, Injecting, Transacting}
+
+abbrev pub class_number : Class → ℕ
+class_number Load = 1
+class_number DecrementBid = 2
+class_number Generation = 3
+class_number IncrementOffer = 4
+
+-- the class that has a number, or that none has
+abbrev pub ClassNumbered : ℕ → Result Class Cause → Type 0
+ClassNumbered k (Ok c) = class_number c ≡ k
+ClassNumbered k (Err e) = (e ≡ ClassNotTaken) × ((c : Class) → class_number c ≢ k)
 
 abbrev pub side_of : Class → Side
 side_of Load = Withdrawing

@@ -1,5 +1,5 @@
 -- What a position withdraws at each bus, from what stands at its sink and its source. Assumes nothing.
-use Rattle.std.specs.Prelude.{Bool, true, false, cond, ◌≡◌, ℕ, ◌*◌, ◌≤◌, pos, ◌-ℤ◌, ◌*ℤ◌}
+use Rattle.std.specs.Prelude.{Bool, true, false, if◌then◌else◌, ◌≡◌, ℕ, ◌*◌, ◌≤◌, pos, ◌-ℤ◌, ◌*ℤ◌}
 use Rattle.std.proofs.Common.{◌∙◌, arith}
 use Rattle.std.proofs.lemmas.Int.{ints}
 use Rattle.std.proofs.Math.IntN.{zero-*ℤ}
@@ -15,7 +15,11 @@ both DecrementBid m = omega (arith, ints)
 both Generation m = omega (arith, ints)
 both IncrementOffer m = omega (arith, ints)
 
-pub at_bus : (here : Bool) (c : Class) (m : ℕ) → pos (cond here 1 0) *ℤ net_withdrawal c m ≡ pos (cond here 1 0 * withdrawn c m) -ℤ pos (cond here 1 0 * injected c m)
+-- 1 where a test holds, else 0
+abbrev one_if : Bool → ℕ
+one_if b = if b then 1 else 0
+
+pub at_bus : (here : Bool) (c : Class) (m : ℕ) → pos (one_if here) *ℤ net_withdrawal c m ≡ pos (one_if here * withdrawn c m) -ℤ pos (one_if here * injected c m)
 at_bus true c m = one-*ℤ (net_withdrawal c m) ∙ both c m
 at_bus false c m = let z = zero-*ℤ (net_withdrawal c m) in omega (arith, ints)
 
@@ -37,7 +41,7 @@ loaded_within DecrementBid m = omega arith
 loaded_within Generation m = omega arith
 loaded_within IncrementOffer m = omega arith
 
-pub at_ends : (sink source : Bool) (m : ℕ) → (pos (cond sink 1 0) -ℤ pos (cond source 1 0)) *ℤ pos m ≡ pos (cond sink 1 0 * m) -ℤ pos (cond source 1 0 * m)
+pub at_ends : (sink source : Bool) (m : ℕ) → (pos (one_if sink) -ℤ pos (one_if source)) *ℤ pos m ≡ pos (one_if sink * m) -ℤ pos (one_if source * m)
 at_ends true true m = omega (arith, ints)
 at_ends true false m = omega (arith, ints)
 at_ends false true m = omega (arith, ints)

@@ -1,5 +1,5 @@
 // A position at one bus.
-ghost use Rattle.std.specs.Prelude.{◌≡◌, eqb};
+ghost use Rattle.std.specs.Prelude.{◌≡◌, ◌==◌};
 ghost use Rattle.positions.specs.Kinds.{amended_position, position, position_ends, position_meaning};
 ghost use Rattle.positions.specs.Kinds;
 ghost use Rattle.positions.specs.Placed.{at_bus, withdrawn_within, injected_within, loaded_within};
@@ -37,7 +37,7 @@ impl Position for BusPosition {
 
     ghost amended = { amended_position };
 
-    ghost net = { λ x i. at_bus (eqb x.bus i) x.class (Kinds.tenths x.megawatts) };
+    ghost net = { λ x i. at_bus (x.bus == i) x.class (Kinds.tenths x.megawatts) };
 
     ghost load = { Prim.search rules };
 
@@ -67,7 +67,7 @@ impl Position for BusPosition {
 
     // All of it is at its one bus.
     fn ends(&self) -> Ends {
-        let tenths = self.megawatts.0.unsigned_abs();
+        let tenths = self.tenths();
         let (withdrawn, injected, load) = match self.class {
             Class::Load => (tenths, 0, tenths),
             Class::DecrementBid => (tenths, 0, 0),

@@ -1,5 +1,5 @@
 // A position that withdraws at its sink what it injects at its source.
-ghost use Rattle.std.specs.Prelude.{◌≡◌, eqb};
+ghost use Rattle.std.specs.Prelude.{◌≡◌, ◌==◌};
 ghost use Rattle.positions.specs.Kinds.{amended_transaction, transaction, transaction_ends, transaction_meaning};
 ghost use Rattle.positions.specs.Kinds;
 ghost use Rattle.positions.specs.Placed.{at_ends};
@@ -37,7 +37,7 @@ impl Position for Transaction {
 
     ghost amended = { amended_transaction };
 
-    ghost net = { λ x i. at_ends (eqb x.sink i) (eqb x.source i) (Kinds.tenths x.megawatts) };
+    ghost net = { λ x i. at_ends (x.sink == i) (x.source == i) (Kinds.tenths x.megawatts) };
 
     ghost load = { Prim.search rules };
 
@@ -66,7 +66,7 @@ impl Position for Transaction {
     }
 
     fn ends(&self) -> Ends {
-        let tenths = self.megawatts.0.unsigned_abs();
+        let tenths = self.tenths();
         Ends {
             sink: self.sink,
             withdrawn: tenths,

@@ -1,5 +1,5 @@
 -- Making and closing as steps of the register. Assumes nothing.
-use Rattle.std.proofs.Common.{◌≡◌, ℕ, ◌<◌, ◌≤◌, List, [], ◌∷◌, ◌++◌, map, length, take, drop, sym, refl, ap, ◌∙◌, subst, append-nil, arith, lit≤}
+use Rattle.std.proofs.Common.{◌≡◌, ℕ, ◌≤◌, List, [], ◌∷◌, ◌++◌, map, length, take, drop, sym, refl, ap, ◌∙◌, append-nil, arith, lit≤, Ok, Err}
 use Rattle.std.proofs.lemmas.List.{map-append, take-append-drop, take_all, drop_all}
 use Rattle.quantities.specs.Sums.{count_of}
 use Rattle.refusals.specs.Causes.{number}
@@ -11,17 +11,15 @@ use Rattle.positions.specs.declared.bus_positions.BusPosition.{BusPosition}
 use Rattle.positions.specs.declared.transactions.Transaction.{Transaction}
 use Rattle.positions.specs.declared.classes.Side.{Side}
 use Rattle.positions.specs.declared.classes.Side.TheVariants.{Withdrawing, Injecting, Transacting}
-use Rattle.register.specs.declared.answers.Answer.TheVariants.{Taken, Refused}
+use Rattle.register.specs.declared.answers.Accepted.TheVariants.{Taken}
 use Rattle.register.specs.declared.totals.Totals.{Totals}
 use Rattle.register.specs.Totals.{of_side}
 use Rattle.refusals.specs.Answers.{Clear, First}
-use Rattle.register.specs.Register.{Register, Kept, Phase, day_ahead, real_time, in_day_ahead, in_real_time, close, Holds, close_unbalanced, total, closes, Step, took, stood, with_positions, with_transactions, with_closings, in_phase, one_position, one_transaction}
-use Rattle.register.specs.Sound.{Sound}
+use Rattle.register.specs.Register.{Register, Phase, day_ahead, real_time, in_day_ahead, in_real_time, close, Holds, close_unbalanced, closes, Step, took, stood, in_phase, one_position, one_transaction}
 use Rattle.register.specs.Views.{phase_of, kept, register, Summed}
 use Rattle.register.specs.Weighed.{MakingRefused, no_bus, many_buses, many_positions, many_transactions}
-use Rattle.register.proofs.Ghosts.{Tallied, Ghosts, with_sound}
+use Rattle.register.proofs.Lawful.{Lawful, Made, opened}
 use Rattle.register.proofs.Runs.{step_sound, fresh_sound}
-use Rattle.register.proofs.Steps.{open_phase}
 
 abbrev pub none : Totals
 none = record { withdrawing = 0; injecting = 0; transacting = 0 }
@@ -43,34 +41,25 @@ module _ (n rooms roomt : ℕ) where
   pub making_first : MakingRefused n rooms roomt OutsideLimits → First (MakingRefused n rooms roomt) OutsideLimits
   making_first h = record { holds = h; least = making_least }
 
-  pub making_clear : 1 ≤ n → n ≤ 32 → rooms ≤ 4096 → roomt ≤ 4096 → Clear (MakingRefused n rooms roomt)
-  making_clear some few small short c (no_bus h) = omega arith
-  making_clear some few small short c (many_buses h) = omega arith
-  making_clear some few small short c (many_positions h) = omega arith
-  making_clear some few small short c (many_transactions h) = omega arith
-
-  pub new_ghosts : (u : Totals) (e : Book BusPosition) (f : Book Transaction) → Clear (MakingRefused n rooms roomt) → e ≡ empty BusPosition rooms → f ≡ empty Transaction roomt → u ≡ none → Ghosts 0 n u e f
-  new_ghosts u e f clear p q z =
-      let all : Tallied 0 n none (empty BusPosition rooms) (empty Transaction roomt) =
-      (omega arith, (((omega arith, λ x. refl), (omega arith, λ x. refl)), ((λ s. let y = none_side s in omega arith), (at_most rooms 4096 (λ l. clear OutsideLimits (many_positions l)), at_most roomt 4096 (λ l. clear OutsideLimits (many_transactions l)))))) in
-      let whole = with_sound 0 n none (empty BusPosition rooms) (empty Transaction roomt) all (fresh_sound n rooms roomt) in
-      subst (λ (x : Totals). Ghosts 0 n x e f) (sym z) (subst (λ (x : Book BusPosition). Ghosts 0 n none x f) (sym p) (subst (λ (x : Book Transaction). Ghosts 0 n none (empty BusPosition rooms) x) (sym q) whole))
+  pub new_lawful : (u : Totals) (e : Book BusPosition) (f : Book Transaction) → Clear (MakingRefused n rooms roomt) → e ≡ empty BusPosition rooms → f ≡ empty Transaction roomt → u ≡ none → Lawful 0 n u e f
+  new_lawful u e f clear p q z =
+      record {
+        few = lit≤ tt;
+        marked = rw (p, q) ((omega arith, λ x. refl), (omega arith, λ x. refl));
+        summed = rw (z, p, q) (λ s. let y = none_side s in omega arith);
+        sized = rw (p, q) (at_most rooms 4096 (λ l. clear OutsideLimits (many_positions l)), at_most roomt 4096 (λ l. clear OutsideLimits (many_transactions l)));
+        sound = rw (p, q) (fresh_sound n rooms roomt);
+      }
 
 -- ---- weighing
-
-balanced_clear : (r : Register) (p : Phase) → total r p Withdrawing ≡ total r p Injecting → Clear (Holds r p close)
-balanced_clear r p e c (close_unbalanced ne) = ne e
 
 unbalanced_least : (r : Register) (p : Phase) (d : Cause) → Holds r p close d → 8 ≤ number d
 unbalanced_least r p d (close_unbalanced ne) = omega arith
 
-module _ (k n : ℕ) (t : Totals) (b : Book BusPosition) (d : Book Transaction) (h : k < 2) (sums : Summed t (register k n b d) (phase_of k)) where
-  pub close_clear : t.withdrawing ≡ t.injecting → Clear (Holds (register k n b d) (phase_of k) close)
-  close_clear e = balanced_clear (register k n b d) (phase_of k) (sym (sums Withdrawing) ∙ e ∙ sums Injecting)
-
-  pub close_refused : (t.withdrawing ≡ t.injecting → ⊥) → Step (register k n b d) close (Refused Unbalanced) (register k n b d)
-  close_refused ne = stood (open_phase k n b d h) (record {
-    holds = close_unbalanced (λ e. ne (sums Withdrawing ∙ e ∙ sym (sums Injecting)));
+module _ {k n : ℕ} {t : Totals} {b : Book BusPosition} {d : Book Transaction} (h : Lawful k n t b d) where
+  pub close_refused : (t.withdrawing ≡ t.injecting → ⊥) → Step (register k n b d) close (Err Unbalanced) (register k n b d)
+  close_refused ne = stood (opened h) (record {
+    holds = close_unbalanced (λ e. ne (h.summed Withdrawing ∙ e ∙ sym (h.summed Injecting)));
     least = unbalanced_least (register k n b d) (phase_of k);
   })
 
@@ -98,8 +87,13 @@ no_transaction : (s : Side) (xs : List Transaction) → count_of (one_transactio
 no_transaction s [] = refl
 no_transaction s (x ∷ xs) = let rest = no_transaction s xs in omega arith
 
-pub over_ghosts : (n : ℕ) (t u : Totals) (b e : Book BusPosition) (d f : Book Transaction) → Tallied 0 n t b d → Sound (register 0 n b d) → e ≡ closed b → f ≡ closed d → u ≡ none → Step (register 0 n b d) close Taken (register 1 n e f) → Ghosts 1 n u e f
-over_ghosts n t u b e d f old sound p q z step =
+over_step : (n : ℕ) (b e : Book BusPosition) (d f : Book Transaction) → Clear (Holds (register 0 n b d) day_ahead close) → e ≡ closed b → f ≡ closed d → Step (register 0 n b d) close (Ok Taken) (register 1 n e f)
+over_step n b e d f clear p q = rw (p, q, ← kept_over b, ← kept_over d) (took (in_day_ahead refl) clear closes)
+
+-- day-ahead is closed, and real time is open
+pub day_ahead_closed : {n : ℕ} {t : Totals} {b : Book BusPosition} {d : Book Transaction} → Lawful 0 n t b d → (u : Totals) (e : Book BusPosition) (f : Book Transaction) → Clear (Holds (register 0 n b d) day_ahead close) → e ≡ closed b → f ≡ closed d → u ≡ none → Made (register 0 n b d) close (Ok Taken) 1 n u e f
+day_ahead_closed {n} {b} {d} h u e f clear p q z =
+    let step = over_step n b e d f clear p q in
     let summed : Summed none (register 1 n (closed b) (closed d)) real_time = λ s.
     let none_here = none_side s in
     let one = ap (count_of (one_position real_time s)) (kept_closed b) in
@@ -107,26 +101,17 @@ over_ghosts n t u b e d f old sound p q z step =
     let three = no_position s b.items in
     let four = no_transaction s d.items in
     omega arith in
-    let new : Tallied 1 n none (closed b) (closed d) =
-    (omega arith, (((omega arith, λ x. absurd (omega arith)), (omega arith, λ x. absurd (omega arith))), (summed, old.1.1.1))) in
-    with_sound 1 n u e f
-    (subst (λ (x : Totals). Tallied 1 n x e f) (sym z) (subst (λ (x : Book BusPosition). Tallied 1 n none x f) (sym p) (subst (λ (x : Book Transaction). Tallied 1 n none (closed b) x) (sym q) new)))
-    (step_sound step sound)
+    record {
+      step = step;
+      lawful = record {
+        few = lit≤ tt;
+        marked = rw (p, q) ((omega arith, λ x. absurd (omega arith)), (omega arith, λ x. absurd (omega arith)));
+        summed = rw (z, p, q) summed;
+        sized = rw (p, q) h.sized;
+        sound = step_sound step h.sound;
+      };
+    }
 
-pub over_step : (n : ℕ) (b e : Book BusPosition) (d f : Book Transaction) → Clear (Holds (register 0 n b d) day_ahead close) → e ≡ closed b → f ≡ closed d → Step (register 0 n b d) close Taken (register 1 n e f)
-over_step n b e d f clear p q =
-    let r = register 0 n b d in
-    let step : Step r close Taken (with_closings r 1) = took (in_day_ahead refl) clear closes in
-    let same : with_closings r 1 ≡ register 1 n (closed b) (closed d) =
-    ap (λ (xs : List (Kept BusPosition)). with_positions (with_closings r 1) xs) (kept_over b)
-    ∙ ap (λ (ys : List (Kept Transaction)). with_transactions (with_positions (with_closings r 1) (kept real_time (closed b))) ys) (kept_over d) in
-    subst (λ (x : Book BusPosition). Step r close Taken (register 1 n x f)) (sym p)
-    (subst (λ (x : Book Transaction). Step r close Taken (register 1 n (closed b) x)) (sym q)
-    (subst (λ (x : Register). Step r close Taken x) same step))
-
-pub end_step : (n : ℕ) (b e : Book BusPosition) (d f : Book Transaction) → Clear (Holds (register 1 n b d) real_time close) → e ≡ b → f ≡ d → Step (register 1 n b d) close Taken (register 2 n e f)
-end_step n b e d f clear p q =
-    let r = register 1 n b d in
-    let step : Step r close Taken (register 2 n b d) = took (in_real_time refl) clear closes in
-    subst (λ (x : Book BusPosition). Step r close Taken (register 2 n x f)) (sym p)
-    (subst (λ (x : Book Transaction). Step r close Taken (register 2 n b x)) (sym q) step)
+-- real time is closed, and the hour with it
+pub real_time_closed : (n : ℕ) (b e : Book BusPosition) (d f : Book Transaction) → Clear (Holds (register 1 n b d) real_time close) → e ≡ b → f ≡ d → Step (register 1 n b d) close (Ok Taken) (register 2 n e f)
+real_time_closed n b e d f clear p q = rw (p, q) (took (in_real_time refl) clear closes)

@@ -1,13 +1,11 @@
 -- A call on a register has one answer and leaves one register. Assumes nothing.
-use Rattle.std.proofs.Common.{◌≡◌, List, [], ◌∷◌, ◌++◌, length, sym, refl, ap, ◌∙◌, subst, arith}
+use Rattle.std.proofs.Common.{◌≡◌, List, [], ◌∷◌, ◌++◌, length, sym, refl, ap, ◌∙◌, subst, arith, Err}
 use Rattle.positions.specs.Kinds.{position, amended_position, amended_transaction}
 use Rattle.positions.specs.declared.bus_positions.BusPosition.{BusPosition}
 use Rattle.positions.specs.declared.transactions.Transaction.{Transaction}
-use Rattle.register.specs.declared.answers.Answer.{Answer}
-use Rattle.register.specs.declared.answers.Answer.TheVariants.{Refused}
 use Rattle.refusals.proofs.Numbers.{one_first}
 use Rattle.refusals.specs.Answers.{First, Clear}
-use Rattle.register.specs.Register.{Register, Kept, Phase, Call, Open, in_day_ahead, in_real_time, Takes, posts, transfers, spreads, amends, amends_transaction, closes, Step, took, stood, Run, done, next, Holds, in_phase, with_positions, with_transactions}
+use Rattle.register.specs.Register.{Register, Kept, Phase, Call, Open, in_day_ahead, in_real_time, Takes, posts, transfers, spreads, amends, amends_transaction, closes, Step, took, stood, Run, done, next, Holds, in_phase, with_positions, with_transactions, Answer}
 use Rattle.register.proofs.Names.{one_name}
 
 one_phase : {r : Register} {p q : Phase} → Open r p → Open r q → p ≡ q
@@ -60,7 +58,7 @@ one_step r (took {a} o clear t) (stood {c} o' f) = absurd (subst (λ x. Clear (H
 one_step r (stood {a} {c} o f) (took o' clear t) = absurd (subst (λ x. Clear (Holds r x a)) (one_phase o' o) clear c f.holds)
 one_step r (stood {p} {a} {c} o f) (stood {c = d} o' g) =
     let g' : First (Holds r p a) d = subst (λ x. First (Holds r x a) d) (one_phase o' o) g in
-    (ap Refused (one_first {Holds = Holds r p a} f g'), refl)
+    (ap Err (one_first {Holds = Holds r p a} f g'), refl)
 
 -- and a list of calls has one list of answers, and leaves one register
 pub one_run : {r : Register} {calls : List Call} {xs ys : List Answer} {s t : Register} → Run r calls xs s → Run r calls ys t → (xs ≡ ys) × (s ≡ t)

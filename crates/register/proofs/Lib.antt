@@ -6,6 +6,7 @@ pub mod Steps
 pub mod Spread
 pub mod Fixed
 pub mod Runs
-pub mod Ghosts
+pub mod Lawful
 pub mod Amendments
 pub mod Closings
+pub mod Posted

@@ -1,29 +1,30 @@
 -- Which number names which class. Assumes nothing.
-use Rattle.std.proofs.Common.{◌≡◌, ℕ, zero, suc, sym, refl, subst}
+use Rattle.std.proofs.Common.{◌≡◌, ◌⊎◌, ⊎_elim, ℕ, refl, subst}
+use Rattle.positions.specs.Classes.{class_number}
 use Rattle.positions.specs.declared.classes.Class.{Class}
 use Rattle.positions.specs.declared.classes.Class.TheVariants.{Load, DecrementBid, Generation, IncrementOffer}
 use Rattle.register.specs.Register.{Phase, day_ahead, Names, load, decrement, generation, increment}
-use Rattle.register.specs.Views.{phase_of}
 
-pub names_load : (p : Phase) (k : ℕ) → k ≡ 1 → Names p k Load
-names_load p k e = subst (λ x. Names p x Load) (sym e) load
+-- a class is named by its number alone
+pub number_named : {p : Phase} {k : ℕ} {c : Class} → Names p k c → class_number c ≡ k
+number_named load = refl
+number_named decrement = refl
+number_named generation = refl
+number_named increment = refl
 
-pub names_generation : (p : Phase) (k : ℕ) → k ≡ 3 → Names p k Generation
-names_generation p k e = subst (λ x. Names p x Generation) (sym e) generation
+-- and day-ahead by that
+pub named_day_ahead : (c : Class) (k : ℕ) → class_number c ≡ k → Names day_ahead k c
+named_day_ahead Load k e = subst (λ x. Names day_ahead x Load) e load
+named_day_ahead DecrementBid k e = subst (λ x. Names day_ahead x DecrementBid) e decrement
+named_day_ahead Generation k e = subst (λ x. Names day_ahead x Generation) e generation
+named_day_ahead IncrementOffer k e = subst (λ x. Names day_ahead x IncrementOffer) e increment
 
-pub names_decrement : (n k : ℕ) → n ≡ 0 → k ≡ 2 → Names (phase_of n) k DecrementBid
-names_decrement n k z e = subst (λ m. Names (phase_of m) k DecrementBid) (sym z) (subst (λ x. Names day_ahead x DecrementBid) (sym e) decrement)
-
-pub names_increment : (n k : ℕ) → n ≡ 0 → k ≡ 4 → Names (phase_of n) k IncrementOffer
-names_increment n k z e = subst (λ m. Names (phase_of m) k IncrementOffer) (sym z) (subst (λ x. Names day_ahead x IncrementOffer) (sym e) increment)
-
-pub names_none : (n k : ℕ) → (k ≡ 1 → ⊥) → (k ≡ 3 → ⊥) → (k ≡ 2 → n ≡ 0 → ⊥) → (k ≡ 4 → n ≡ 0 → ⊥) → (c : Class) → Names (phase_of n) k c → ⊥
-names_none zero k a b d i c load = a refl
-names_none zero k a b d i c decrement = d refl refl
-names_none zero k a b d i c generation = b refl
-names_none zero k a b d i c increment = i refl refl
-names_none (suc n) k a b d i c load = a refl
-names_none (suc n) k a b d i c generation = b refl
+-- loads and generation in every phase
+pub named_always : (p : Phase) (c : Class) (k : ℕ) → class_number c ≡ k → (c ≡ Load) ⊎ (c ≡ Generation) → Names p k c
+named_always p Load k e either = subst (λ x. Names p x Load) e load
+named_always p DecrementBid k e either = ⊎_elim (λ h. cc) (λ h. cc) either
+named_always p Generation k e either = subst (λ x. Names p x Generation) e generation
+named_always p IncrementOffer k e either = ⊎_elim (λ h. cc) (λ h. cc) either
 
 pub one_name : {p : Phase} {k : ℕ} {c d : Class} → Names p k c → Names p k d → c ≡ d
 one_name load load = refl

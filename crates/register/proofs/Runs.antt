@@ -1,8 +1,7 @@
 -- Every call keeps a register sound. Assumes nothing.
-use Rattle.std.proofs.Common.{◌≡◌, ℕ, suc, ◌+◌, ◌*◌, ◌<◌, ◌≤◌, ◌≢◌, List, [], ◌∷◌, ◌++◌, map, length, get_or, ℤ, sym, refl, ap, ◌∙◌, subst, ⊎_elim, zero-mul, arith}
-use Rattle.std.specs.List.{AllByRecursion}
-use Rattle.std.proofs.ByRecursion.{All-append, All-get_or, All-from_get_or}
-use Rattle.std.proofs.lemmas.Bool.{cases_eq}
+use Rattle.std.proofs.Common.{◌≡◌, ℕ, suc, ◌+◌, ◌*◌, ◌<◌, ◌≤◌, ◌≢◌, List, [], ◌∷◌, ◌++◌, map, length, get_or, ℤ, sym, refl, ap, ◌∙◌, subst, arith}
+use Rattle.std.specs.Prelude.{All}
+use Rattle.std.proofs.lemmas.List.Elements.{All-nil, All-cons, All-head, All-tail, All-append, All-push, All-from_get_or}
 use Rattle.refusals.proofs.Numbers.{at_most}
 use Rattle.refusals.specs.Answers.{Clear}
 use Rattle.refusals.specs.declared.Cause.TheVariants.{BusOutOfRange, ParticipantOutOfRange, TotalOverLimit, AreaNotWhole, Unbalanced}
@@ -16,9 +15,8 @@ use Rattle.positions.specs.declared.bus_positions.BusPosition.{BusPosition}
 use Rattle.positions.specs.declared.transactions.Transaction.{Transaction}
 use Rattle.positions.specs.declared.classes.Side.{Side}
 use Rattle.positions.specs.declared.classes.Side.TheVariants.{Withdrawing, Injecting, Transacting}
-use Rattle.register.specs.declared.answers.Answer.{Answer}
 use Rattle.areas.specs.Areas.{shares_by, nowhere, loads}
-use Rattle.register.specs.Register.{Register, Kept, Phase, day_ahead, real_time, in_phase, Call, one_if_phase, one_position, one_transaction, total, Open, in_day_ahead, in_real_time, stands, area_loads, Holds, post_bus, post_participant, post_total, transfer_source, transfer_sink, transfer_participant, transfer_total, area_bus, area_participant, area_total, area_shares, amend_total, amend_transaction_total, close_unbalanced, with_positions, with_transactions, with_closings, Takes, posts, transfers, spreads, amends, amends_transaction, closes, Step, took, stood, Run, done, next, fresh}
+use Rattle.register.specs.Register.{Register, Kept, Phase, day_ahead, real_time, in_phase, Call, one_if_phase, one_position, one_transaction, total, Open, in_day_ahead, in_real_time, stands, area_loads, Holds, post_bus, post_participant, post_total, transfer_source, transfer_sink, transfer_participant, transfer_total, area_bus, area_participant, area_total, area_shares, amend_total, amend_transaction_total, close_unbalanced, with_positions, with_transactions, with_closings, Takes, posts, transfers, spreads, amends, amends_transaction, closes, Step, took, stood, Run, done, next, fresh, Answer}
 use Rattle.register.specs.Sound.{Limited, Balanced, ClosedBalanced, Sound}
 use Rattle.register.proofs.Spread.{count_area}
 
@@ -30,33 +28,20 @@ PositionPlaced n k = (k.entry.participant < 16) × (k.entry.bus < n)
 abbrev pub TransactionPlaced : ℕ → Kept Transaction → Type 0
 TransactionPlaced n k = (k.entry.participant < 16) × (k.entry.source < n) × (k.entry.sink < n)
 
-module _ {A : Type 0} (P : A → Type 0) where
-  -- what holds at every place of a list, told by places and told of all its elements
-  pub of_all : (xs : List A) → AllByRecursion P xs → (i : ℕ) (d : A) → i < length xs → P (get_or xs i d)
-  of_all xs h i d l = All-get_or P xs i d l h
+all_replaced : {A : Type 0} (P : A → Type 0) (x y : A) → (P x → P y) → (before after : List A) → All P (before ++ (x ∷ after)) → All P (before ++ (y ∷ after))
+all_replaced P x y f [] after h = All-cons P y after (f (All-head P x after h)) (All-tail P x after h)
+all_replaced P x y f (b ∷ before) after h =
+    All-cons P b (before ++ (y ∷ after)) (All-head P b (before ++ (x ∷ after)) h) (all_replaced P x y f before after (All-tail P b (before ++ (x ∷ after)) h))
 
-  pub to_all : (xs : List A) → ((i : ℕ) (d : A) → i < length xs → P (get_or xs i d)) → AllByRecursion P xs
-  to_all [] h = tt
-  to_all (x ∷ xs) h = All-from_get_or P (x ∷ xs) x (λ i l. h i x l)
-
-  all_replaced : (x y : A) → (P x → P y) → (before after : List A) → AllByRecursion P (before ++ (x ∷ after)) → AllByRecursion P (before ++ (y ∷ after))
-  all_replaced x y f [] after h = (f h.0, h.1)
-  all_replaced x y f (b ∷ before) after h = (h.0, all_replaced x y f before after h.1)
-
-all_loads : (n : ℕ) (p : Phase) (who : ℕ) → who < 16 → (ms : List AreaMember) (zs : List ℤ) → AllByRecursion (λ m. m.bus < n) ms → AllByRecursion (PositionPlaced n) (map (in_phase p) (loads who ms zs))
-all_loads n p who h [] [] a = tt
-all_loads n p who h [] (z ∷ zs) a = tt
-all_loads n p who h (m ∷ ms) [] a = tt
-all_loads n p who h (m ∷ ms) (z ∷ zs) a = ((h, a.0), all_loads n p who h ms zs a.1)
+all_loads : (n : ℕ) (p : Phase) (who : ℕ) → who < 16 → (ms : List AreaMember) (zs : List ℤ) → All (λ (m : AreaMember). m.bus < n) ms → All (PositionPlaced n) (map (in_phase p) (loads who ms zs))
+all_loads n p who h [] [] a = All-nil (PositionPlaced n)
+all_loads n p who h [] (z ∷ zs) a = All-nil (PositionPlaced n)
+all_loads n p who h (m ∷ ms) [] a = All-nil (PositionPlaced n)
+all_loads n p who h (m ∷ ms) (z ∷ zs) a =
+    let inside : AreaMember → Type 0 = λ m. m.bus < n in
+    All-cons (PositionPlaced n) _ (map (in_phase p) (loads who ms zs)) (h, All-head inside m ms a) (all_loads n p who h ms zs (All-tail inside m ms a))
 
 -- ---- totals within the limit
-
--- m more in one phase
-phase_grows : (p q : Phase) (x : Phase → ℕ) (m : ℕ) → x q ≤ 1000000 → x p + m ≤ 1000000 → x q + one_if_phase p q * m ≤ 1000000
-phase_grows day_ahead day_ahead x m h k = omega arith
-phase_grows day_ahead real_time x m h k = omega arith
-phase_grows real_time day_ahead x m h k = omega arith
-phase_grows real_time real_time x m h k = omega arith
 
 -- m for o in one phase
 phase_changes : (p q : Phase) (x : Phase → ℕ) (o m t : ℕ) → t + one_if_phase p q * o ≡ x q + one_if_phase p q * m → x q ≤ 1000000 → x p + m ≤ 1000000 + o → t ≤ 1000000
@@ -77,22 +62,13 @@ side_changes Transacting Withdrawing x o m h k = omega arith
 side_changes Transacting Injecting x o m h k = omega arith
 side_changes Transacting Transacting x o m h k = omega arith
 
-module _ (r : Register) (p : Phase) (a : Side) (all : Limited r) where
-  grows : (m : ℕ) → total r p a + m ≤ 1000000 → (q : Phase) (s : Side) → total r q s + one_if_phase p q * (one_if_side a s * m) ≤ 1000000
-  grows m fit q s =
-      let on_side = side_changes a s (total r p) 0 m (all p s) (omega arith) in
-      phase_grows p q (λ z. total r z s) (one_if_side a s * m) (all q s) (omega arith)
-
-  changes : (o m t : ℕ) (q : Phase) (s : Side) → total r p a + m ≤ 1000000 + o → t + one_if_phase p q * (one_if_side a s * o) ≡ total r q s + one_if_phase p q * (one_if_side a s * m) → t ≤ 1000000
-  changes o m t q s fit e = phase_changes p q (λ z. total r z s) (one_if_side a s * o) (one_if_side a s * m) t e (all q s) (side_changes a s (total r p) o m (all p s) fit)
-
 -- ---- closed phases
 
 nought : (a x : ℕ) → a ≡ 0 → a * x ≡ 0
-nought a x e = ap (λ z. z * x) e ∙ zero-mul x
+nought a x e = grind arith
 
 not_not : (a b : ℕ) → (a ≢ b → ⊥) → a ≡ b
-not_not a b f = ⊎_elim (λ e. e) (λ d. absurd (f d)) (cases_eq a b)
+not_not a b f = grind arith
 
 -- a call that ends no phase, and leaves what day-ahead counts once that is closed
 still : (r s : Register) (p : Phase) → Open r p → s.closings ≡ r.closings → ((side : Side) → one_if_phase p day_ahead ≡ 0 → total s day_ahead side ≡ total r day_ahead side) → Sound r → ClosedBalanced s
@@ -107,83 +83,55 @@ closed r real_time (in_real_time e) b h = (h.0, h.1, h.2, ((λ k. h.3.0 (omega a
 
 -- ---- one call
 
--- records are added to the positions: o is what they were refused for, were it so
 module _ (r : Register) (p : Phase) (o : Open r p) (h : Sound r) where
-  add_positions : (more : List (Kept BusPosition)) (m : ℕ) (a : Side) → AllByRecursion (PositionPlaced r.buses) more → total r p a + m ≤ 1000000 → ((q : Phase) (s : Side) → count_of (one_position q s) more ≡ one_if_phase p q * (one_if_side a s * m)) → Sound (with_positions r (r.positions ++ more))
+  -- a side of the open phase has m for what was there, and every other total stays
+  totals_kept : (s : Register) (a : Side) (was m : ℕ) → s.closings ≡ r.closings → total r p a + m ≤ 1000000 + was → ((q : Phase) (side : Side) → total s q side + one_if_phase p q * (one_if_side a side * was) ≡ total r q side + one_if_phase p q * (one_if_side a side * m)) → Limited s × ClosedBalanced s
+  totals_kept s a was m same fit sums = (
+    (λ q side. phase_changes p q (λ z. total r z side) (one_if_side a side * was) (one_if_side a side * m) (total s q side) (sums q side) (h.2 q side) (side_changes a side (total r p) was m (h.2 p side) fit)),
+    still r s p o same (λ side z. let w = sums day_ahead side in let x = nought (one_if_phase p day_ahead) (one_if_side a side * was) z in let y = nought (one_if_phase p day_ahead) (one_if_side a side * m) z in omega arith) h,
+  )
+
+  add_positions : (more : List (Kept BusPosition)) (m : ℕ) (a : Side) → All (PositionPlaced r.buses) more → total r p a + m ≤ 1000000 → ((q : Phase) (s : Side) → count_of (one_position q s) more ≡ one_if_phase p q * (one_if_side a s * m)) → Sound (with_positions r (r.positions ++ more))
   add_positions more m a placed fit adds =
-      let n = r.buses in
-      let s = with_positions r (r.positions ++ more) in
-      let was : (q : Phase) (side : Side) → total s q side ≡ total r q side + one_if_phase p q * (one_if_side a side * m) = λ q side.
-      (let grown = count_append (one_position q side) r.positions more in
-      let new = adds q side in
-      omega arith) in
-      let b = still r s p o refl (λ side e. let w = was day_ahead side in let z = nought (one_if_phase p day_ahead) (one_if_side a side * m) e in omega arith) h in (
-        of_all (PositionPlaced n) (r.positions ++ more) (All-append (PositionPlaced n) r.positions more (to_all (PositionPlaced n) r.positions h.0) placed),
-        h.1,
-        (λ q side. subst (λ (t : ℕ). t ≤ 1000000) (sym (was q side)) (grows r p a h.2 m fit q side)),
-        b,
-      )
+      let kept = totals_kept (with_positions r (r.positions ++ more)) a 0 m refl (omega arith) (λ q side. let grown = count_append (one_position q side) r.positions more in let new = adds q side in omega arith) in
+      (All-append (PositionPlaced r.buses) r.positions more h.0 placed, h.1, kept.0, kept.1)
 
   add_transaction : (x : Transaction) → TransactionPlaced r.buses (in_phase p x) → total r p Transacting + tenths x.megawatts ≤ 1000000 → Sound (with_transactions r (r.transactions ++ (in_phase p x ∷ [])))
   add_transaction x placed fit =
-      let n = r.buses in
-      let m = tenths x.megawatts in
       let k : Kept Transaction = in_phase p x in
-      let s = with_transactions r (r.transactions ++ (k ∷ [])) in
-      let was : (q : Phase) (side : Side) → total s q side ≡ total r q side + one_if_phase p q * (one_if_side Transacting side * m) = λ q side.
-      (let grown = count_push (one_transaction q side) r.transactions k in omega arith) in
-      let b = still r s p o refl (λ side e. let w = was day_ahead side in let z = nought (one_if_phase p day_ahead) (one_if_side Transacting side * m) e in omega arith) h in (
-        h.0,
-        of_all (TransactionPlaced n) (r.transactions ++ (k ∷ [])) (All-append (TransactionPlaced n) r.transactions (k ∷ []) (to_all (TransactionPlaced n) r.transactions h.1) (placed, tt)),
-        (λ q side. subst (λ (t : ℕ). t ≤ 1000000) (sym (was q side)) (grows r p Transacting h.2 m fit q side)),
-        b,
-      )
+      let kept = totals_kept (with_transactions r (r.transactions ++ (k ∷ []))) Transacting 0 (tenths x.megawatts) refl (omega arith) (λ q side. let grown = count_push (one_transaction q side) r.transactions k in omega arith) in
+      (h.0, All-push (TransactionPlaced r.buses) r.transactions k h.1 placed, kept.0, kept.1)
 
   change_position : (m : ℕ) (e : BusPosition) (before after : List (Kept BusPosition)) → r.positions ≡ before ++ (in_phase p e ∷ after) → total r p (side_of e.class) + m ≤ 1000000 + tenths e.megawatts → Sound (with_positions r (before ++ (in_phase p (amended_position e m) ∷ after)))
   change_position m e before after is fit =
-      let n = r.buses in
       let old : Kept BusPosition = in_phase p e in
       let new : Kept BusPosition = in_phase p (amended_position e m) in
-      let a = side_of e.class in
-      let s = with_positions r (before ++ (new ∷ after)) in
-      let was : (q : Phase) (side : Side) → total s q side + one_if_phase p q * (one_if_side a side * tenths e.megawatts) ≡ total r q side + one_if_phase p q * (one_if_side a side * m) = λ q side.
+      let kept = totals_kept (with_positions r (before ++ (new ∷ after))) (side_of e.class) (tenths e.megawatts) m refl fit (λ q side.
       (let g = one_position q side in
       let one = ap (count_of g) is in
       let two = count_middle g before old after in
       let three = count_middle g before new after in
-      omega arith) in
-      let b = still r s p o refl (λ side z. let w = was day_ahead side in let x = nought (one_if_phase p day_ahead) (one_if_side a side * tenths e.megawatts) z in let y = nought (one_if_phase p day_ahead) (one_if_side a side * m) z in omega arith) h in (
-        of_all (PositionPlaced n) (before ++ (new ∷ after)) (all_replaced (PositionPlaced n) old new (λ q. q) before after (subst (AllByRecursion (PositionPlaced n)) is (to_all (PositionPlaced n) r.positions h.0))),
-        h.1,
-        (λ q side. changes r p a h.2 (tenths e.megawatts) m (total s q side) q side fit (was q side)),
-        b,
-      )
+      omega arith)) in
+      (all_replaced (PositionPlaced r.buses) old new (λ q. q) before after (subst (All (PositionPlaced r.buses)) is h.0), h.1, kept.0, kept.1)
 
   change_transaction : (m : ℕ) (e : Transaction) (before after : List (Kept Transaction)) → r.transactions ≡ before ++ (in_phase p e ∷ after) → total r p Transacting + m ≤ 1000000 + tenths e.megawatts → Sound (with_transactions r (before ++ (in_phase p (amended_transaction e m) ∷ after)))
   change_transaction m e before after is fit =
-      let n = r.buses in
       let old : Kept Transaction = in_phase p e in
       let new : Kept Transaction = in_phase p (amended_transaction e m) in
-      let s = with_transactions r (before ++ (new ∷ after)) in
-      let was : (q : Phase) (side : Side) → total s q side + one_if_phase p q * (one_if_side Transacting side * tenths e.megawatts) ≡ total r q side + one_if_phase p q * (one_if_side Transacting side * m) = λ q side.
+      let kept = totals_kept (with_transactions r (before ++ (new ∷ after))) Transacting (tenths e.megawatts) m refl fit (λ q side.
       (let g = one_transaction q side in
       let one = ap (count_of g) is in
       let two = count_middle g before old after in
       let three = count_middle g before new after in
-      omega arith) in
-      let b = still r s p o refl (λ side z. let w = was day_ahead side in let x = nought (one_if_phase p day_ahead) (one_if_side Transacting side * tenths e.megawatts) z in let y = nought (one_if_phase p day_ahead) (one_if_side Transacting side * m) z in omega arith) h in (
-        h.0,
-        of_all (TransactionPlaced n) (before ++ (new ∷ after)) (all_replaced (TransactionPlaced n) old new (λ q. q) before after (subst (AllByRecursion (TransactionPlaced n)) is (to_all (TransactionPlaced n) r.transactions h.1))),
-        (λ q side. changes r p Transacting h.2 (tenths e.megawatts) m (total s q side) q side fit (was q side)),
-        b,
-      )
+      omega arith)) in
+      (h.0, all_replaced (TransactionPlaced r.buses) old new (λ q. q) before after (subst (All (TransactionPlaced r.buses)) is h.1), kept.0, kept.1)
 
 takes_sound : (r : Register) (p : Phase) {a : Call} {b : Answer} {s : Register} → Open r p → Clear (Holds r p a) → Takes r p a b s → Sound r → Sound s
 takes_sound r p o clear (posts a c names) h =
     let who : a.participant ≤ 15 = at_most _ _ (λ q. clear ParticipantOutOfRange (post_participant q)) in
     let there : r.buses ≤ a.bus → ⊥ = λ q. clear BusOutOfRange (post_bus q) in
     let fit = at_most _ _ (λ q. clear TotalOverLimit (post_total names q)) in
-    add_positions r p o h (in_phase p (position a.participant c a.bus a.amount) ∷ []) a.amount (side_of c) ((omega arith, omega arith), tt) fit (λ q s. omega arith)
+    add_positions r p o h (in_phase p (position a.participant c a.bus a.amount) ∷ []) a.amount (side_of c) (All-cons (PositionPlaced r.buses) _ [] (omega arith, omega arith) (All-nil (PositionPlaced r.buses))) fit (λ q s. omega arith)
 takes_sound r p o clear (transfers a) h =
     let who : a.participant ≤ 15 = at_most _ _ (λ q. clear ParticipantOutOfRange (transfer_participant q)) in
     let from : r.buses ≤ a.source → ⊥ = λ q. clear BusOutOfRange (transfer_source q) in

@@ -1,8 +1,7 @@
 -- The loads of an area: what they are, how they are posted, and what they add to. Assumes nothing.
-use Rattle.std.proofs.Common.{◌≡◌, ℕ, suc, ◌+◌, ◌*◌, ◌<◌, ◌≤◌, List, [], ◌∷◌, ◌++◌, map, length, get_or, ℤ, pos, nat_abs, ◌≤ℤ◌, sym, refl, ap, ◌∙◌, subst, mul-zero, mul-add, arith}
+use Rattle.std.proofs.Common.{◌≡◌, ℕ, suc, ◌+◌, ◌*◌, ◌<◌, ◌≤◌, List, [], ◌∷◌, ◌++◌, map, length, get_or, ℤ, pos, nat_abs, ◌≤ℤ◌, sym, refl, ap, ◌∙◌, subst, mul-zero, mul-add, arith, Ok, Err}
 use borrow.Author.Differences.{ints}
 use Rattle.refusals.proofs.Numbers.{at_most, none_holds}
-use Rattle.refusals.specs.Answers.{First}
 use Rattle.refusals.specs.Causes.{number}
 use Rattle.refusals.specs.declared.Cause.{Cause}
 use Rattle.refusals.specs.declared.Cause.TheVariants.{BusOutOfRange, ParticipantOutOfRange, TotalOverLimit, LedgerFull, AreaNotWhole}
@@ -11,19 +10,13 @@ use Rattle.quantities.proofs.SumLaws.{sum_of_row, at_row, length_row}
 use Rattle.apportion.specs.Split.{share, shares, whole}
 use Rattle.apportion.specs.declared.items.AreaMember.{AreaMember}
 use Rattle.apportion.proofs.Laws.{shares_add, share_toward}
-use Rattle.areas.specs.Areas.{shares_by, nowhere, loads, MembersPlaced, AreaRefused, many_members, no_room, not_whole}
+use Rattle.areas.specs.Areas.{shares_by, nowhere, loads, MembersPlaced}
 use Rattle.areas.proofs.Loads.{length_shares}
-use Rattle.ledgers.specs.Book.{Book, holding}
-use Rattle.positions.specs.declared.bus_positions.BusPosition.{BusPosition}
-use Rattle.positions.specs.declared.transactions.Transaction.{Transaction}
 use Rattle.positions.specs.declared.classes.Side.{Side}
 use Rattle.positions.specs.declared.classes.Side.TheVariants.{Withdrawing}
-use Rattle.register.specs.declared.answers.Answer.TheVariants.{RecordNumber, Refused}
+use Rattle.register.specs.declared.answers.Accepted.TheVariants.{RecordNumber}
 use Rattle.positions.specs.Classes.{one_if_side}
-use Rattle.register.specs.Register.{Register, Kept, Phase, in_phase, Area, area, area_loads, Open, Holds, area_bus, area_participant, area_total, area_room, area_empty, area_shares, total, one_position, spreads, Step, took, stood, with_positions, one_if_phase}
-use Rattle.register.specs.Views.{phase_of, register}
-use Rattle.register.proofs.Kept.{kept_length, kept_more}
-use Rattle.register.proofs.Steps.{open_phase}
+use Rattle.register.specs.Register.{Register, Phase, in_phase, Area, area, area_loads, Open, Holds, area_bus, area_participant, area_total, area_room, area_empty, area_shares, total, one_position, spreads, Step, took, stood, with_positions, one_if_phase}
 
 -- ---- what the split gives
 
@@ -59,57 +52,24 @@ module _ (r : Register) (p : Phase) where
   area_least a k buses who most room all d (area_empty h) = at_most k 9 (λ q. let f = all q in let z : whole (shares_by a.members) ≡ 0 = ap (λ (ms : List AreaMember). whole (shares_by ms)) h in omega arith)
   area_least a k buses who most room all d (area_shares h) = at_most k 9 (λ q. h (all q))
 
-module _ (r : Register) (p : Phase) (o : Open r p) (a : Area) where
-  pub area_no_bus : (i : ℕ) → i < length a.members → r.buses ≤ (get_or a.members i nowhere).bus → Step r (area a) (Refused BusOutOfRange) r
+module _ {r : Register} {p : Phase} (o : Open r p) (a : Area) where
+  pub area_no_bus : (i : ℕ) → i < length a.members → r.buses ≤ (get_or a.members i nowhere).bus → Step r (area a) (Err BusOutOfRange) r
   area_no_bus i l h = stood o (record { holds = area_bus i l h; least = area_least r p a 1 (λ q. absurd (omega arith)) (λ q. absurd (omega arith)) (λ q. absurd (omega arith)) (λ q. absurd (omega arith)) (λ q. absurd (omega arith)) })
 
-  pub area_no_participant : MembersPlaced r.buses a.members → 15 < a.participant → Step r (area a) (Refused ParticipantOutOfRange) r
+  pub area_no_participant : MembersPlaced r.buses a.members → 15 < a.participant → Step r (area a) (Err ParticipantOutOfRange) r
   area_no_participant buses h = stood o (record { holds = area_participant h; least = area_least r p a 2 (λ q. buses) (λ q. absurd (omega arith)) (λ q. absurd (omega arith)) (λ q. absurd (omega arith)) (λ q. absurd (omega arith)) })
 
-  pub area_too_much : MembersPlaced r.buses a.members → a.participant ≤ 15 → 1000000 < total r p Withdrawing + a.amount → Step r (area a) (Refused TotalOverLimit) r
+  pub area_too_much : MembersPlaced r.buses a.members → a.participant ≤ 15 → 1000000 < total r p Withdrawing + a.amount → Step r (area a) (Err TotalOverLimit) r
   area_too_much buses who h = stood o (record { holds = area_total h; least = area_least r p a 4 (λ q. buses) (λ q. who) (λ q. absurd (omega arith)) (λ q. absurd (omega arith)) (λ q. absurd (omega arith)) })
 
-  pub area_no_room : MembersPlaced r.buses a.members → a.participant ≤ 15 → total r p Withdrawing + a.amount ≤ 1000000 → r.position_room < length r.positions + length a.members → Step r (area a) (Refused LedgerFull) r
+  pub area_no_room : MembersPlaced r.buses a.members → a.participant ≤ 15 → total r p Withdrawing + a.amount ≤ 1000000 → r.position_room < length r.positions + length a.members → Step r (area a) (Err LedgerFull) r
   area_no_room buses who most h = stood o (record { holds = area_room h; least = area_least r p a 6 (λ q. buses) (λ q. who) (λ q. most) (λ q. absurd (omega arith)) (λ q. absurd (omega arith)) })
 
-  pub area_not_whole : MembersPlaced r.buses a.members → a.participant ≤ 15 → total r p Withdrawing + a.amount ≤ 1000000 → length r.positions + length a.members ≤ r.position_room → (whole (shares_by a.members) ≡ 10000 → ⊥) → Step r (area a) (Refused AreaNotWhole) r
+  pub area_not_whole : MembersPlaced r.buses a.members → a.participant ≤ 15 → total r p Withdrawing + a.amount ≤ 1000000 → length r.positions + length a.members ≤ r.position_room → (whole (shares_by a.members) ≡ 10000 → ⊥) → Step r (area a) (Err AreaNotWhole) r
   area_not_whole buses who most room h = stood o (record { holds = area_shares h; least = area_least r p a 9 (λ q. buses) (λ q. who) (λ q. most) (λ q. room) (λ q. absurd (omega arith)) })
 
-  pub area_taken : MembersPlaced r.buses a.members → a.participant ≤ 15 → total r p Withdrawing + a.amount ≤ 1000000 → length r.positions + length a.members ≤ r.position_room → whole (shares_by a.members) ≡ 10000 → Step r (area a) (RecordNumber (length r.positions)) (with_positions r (r.positions ++ map (in_phase p) (area_loads a)))
+  pub area_taken : MembersPlaced r.buses a.members → a.participant ≤ 15 → total r p Withdrawing + a.amount ≤ 1000000 → length r.positions + length a.members ≤ r.position_room → whole (shares_by a.members) ≡ 10000 → Step r (area a) (Ok (RecordNumber (length r.positions))) (with_positions r (r.positions ++ map (in_phase p) (area_loads a)))
   area_taken buses who most room all = took o (none_holds {Holds = Holds r p (area a)} (area_least r p a 17 (λ q. buses) (λ q. who) (λ q. most) (λ q. room) (λ q. all))) (spreads a)
-
--- ---- on the books of an hour
-
-module _ (k n : ℕ) (b : Book BusPosition) (d : Book Transaction) (h : k < 2) (a : Area) where
-  pub area_fills : MembersPlaced n a.members → a.participant ≤ 15 → total (register k n b d) (phase_of k) Withdrawing + a.amount ≤ 1000000 → length b.items + length a.members ≤ b.capacity → whole (shares_by a.members) ≡ 10000 → (i : ℕ) (e : Book BusPosition) → b.mark ≤ length b.items → i ≡ length b.items → e ≡ holding b (b.items ++ area_loads a) → Step (register k n b d) (area a) (RecordNumber i) (register k n e d)
-  area_fills buses who most room all i e low at-end is =
-      let r = register k n b d in
-      let p = phase_of k in
-      let xs = area_loads a in
-      let long = kept_length p b in
-      let more = kept_more p b xs low in
-      let step = area_taken r p (open_phase k n b d h) a buses who most (omega arith) all in
-      subst (λ (z : Book BusPosition). Step r (area a) (RecordNumber i) (register k n z d)) (sym is)
-      (subst (λ (ys : List (Kept BusPosition)). Step r (area a) (RecordNumber i) (with_positions r ys)) (sym more)
-      (subst (λ (j : ℕ). Step r (area a) (RecordNumber j) (with_positions r (r.positions ++ map (in_phase p) xs))) (long ∙ sym at-end) step))
-
-  -- refused for want of room or for its shares, whichever comes first
-  module _ (buses : MembersPlaced n a.members) (who : a.participant ≤ 15) (most : total (register k n b d) (phase_of k) Withdrawing + a.amount ≤ 1000000) (small : b.capacity ≤ 4096) where
-    unposted : {f : Cause} → AreaRefused b a.members f → ((c : Cause) → AreaRefused b a.members c → number f ≤ number c) → Step (register k n b d) (area a) (Refused f) (register k n b d)
-    unposted (many_members q) least =
-        let long = kept_length (phase_of k) b in
-        area_no_room (register k n b d) (phase_of k) (open_phase k n b d h) a buses who most (omega arith)
-    unposted (no_room q) least =
-        let long = kept_length (phase_of k) b in
-        area_no_room (register k n b d) (phase_of k) (open_phase k n b d h) a buses who most (omega arith)
-    unposted (not_whole q) least =
-        let long = kept_length (phase_of k) b in
-        let room : length b.items + length a.members ≤ b.capacity = at_most _ _ (λ l. let first = least LedgerFull (no_room l) in omega arith) in
-        area_not_whole (register k n b d) (phase_of k) (open_phase k n b d h) a buses who most (omega arith) q
-
-    pub area_unposted : (f : Cause) (e : Book BusPosition) → First (AreaRefused b a.members) f → e ≡ b → Step (register k n b d) (area a) (Refused f) (register k n e d)
-    area_unposted f e first same =
-        subst (λ (z : Book BusPosition). Step (register k n b d) (area a) (Refused f) (register k n z d)) (sym same) (unposted first.holds first.least)
 
 -- what the loads of one phase add to a side of a phase
 pub count_loads : (p q : Phase) (s : Side) (who : ℕ) (ms : List AreaMember) (zs : List ℤ) → length zs ≡ length ms → count_of (one_position q s) (map (in_phase p) (loads who ms zs)) ≡ one_if_phase p q * (one_if_side Withdrawing s * count_of nat_abs zs)

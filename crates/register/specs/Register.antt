@@ -1,5 +1,5 @@
 -- The register of an hour: what any list of calls answers and leaves, told by the calls alone. Assumes nothing.
-use Rattle.std.specs.Prelude.{◌≡◌, ℕ, suc, ◌+◌, ◌*◌, ◌<◌, ◌≤◌, ◌≢◌, List, [], ◌∷◌, ◌++◌, map, length, pos, slice_index_or}
+use Rattle.std.specs.Prelude.{◌≡◌, ℕ, suc, ◌+◌, ◌*◌, ◌<◌, ◌≤◌, ◌≢◌, List, [], ◌∷◌, ◌++◌, map, length, pos, Ok, Err, Result, slice_index_or}
 use Rattle.refusals.specs.Answers.{First, Clear}
 use Rattle.refusals.specs.declared.Cause.{Cause}
 use Rattle.refusals.specs.declared.Cause.TheVariants.{BusOutOfRange, ParticipantOutOfRange, ClassNotTaken, TotalOverLimit, SourceIsSink, LedgerFull, RecordNotOpen, Unbalanced, AreaNotWhole}
@@ -15,8 +15,8 @@ use Rattle.positions.specs.declared.classes.Class.{Class}
 use Rattle.positions.specs.declared.classes.Class.TheVariants.{Load, DecrementBid, Generation, IncrementOffer}
 use Rattle.positions.specs.declared.classes.Side.{Side}
 use Rattle.positions.specs.declared.classes.Side.TheVariants.{Withdrawing, Injecting, Transacting}
-use Rattle.register.specs.declared.answers.Answer.{Answer}
-use Rattle.register.specs.declared.answers.Answer.TheVariants.{RecordNumber, Taken, Refused}
+use Rattle.register.specs.declared.answers.Accepted.{Accepted}
+use Rattle.register.specs.declared.answers.Accepted.TheVariants.{RecordNumber, Taken}
 
 pub data Phase : Type 0 where
   day_ahead : Phase
@@ -64,6 +64,11 @@ pub data Call : Type 0 where
   amend_position : ℕ → ℕ → Call
   amend_transaction : ℕ → ℕ → Call
   close : Call
+
+-- ---- the answers: what a call that is taken gives, or the cause of its refusal
+
+abbrev pub Answer : Type 0
+Answer = Result Accepted Cause
 
 -- ---- what the records of a phase add to
 
@@ -145,23 +150,23 @@ with_closings r k = record { buses = r.buses; position_room = r.position_room; t
 -- what a call that nothing speaks against does
 pub data Takes (r : Register) (p : Phase) : Call → Answer → Register → Type 0 where
   posts : (a : Posting) (c : Class) → Names p a.class c →
-      Takes r p (post a) (RecordNumber (length r.positions))
+      Takes r p (post a) (Ok (RecordNumber (length r.positions)))
       (with_positions r (r.positions ++ (in_phase p (position a.participant c a.bus a.amount) ∷ [])))
   transfers : (a : Transfer) →
-      Takes r p (transfer a) (RecordNumber (length r.transactions))
+      Takes r p (transfer a) (Ok (RecordNumber (length r.transactions)))
       (with_transactions r (r.transactions ++ (in_phase p (transaction a.participant a.source a.sink a.amount) ∷ [])))
   spreads : (a : Area) →
-      Takes r p (area a) (RecordNumber (length r.positions)) (with_positions r (r.positions ++ map (in_phase p) (area_loads a)))
+      Takes r p (area a) (Ok (RecordNumber (length r.positions))) (with_positions r (r.positions ++ map (in_phase p) (area_loads a)))
   amends : (i m : ℕ) (e : BusPosition) (before after : List (Kept BusPosition)) → r.positions ≡ before ++ (in_phase p e ∷ after) → length before ≡ i →
-      Takes r p (amend_position i m) Taken (with_positions r (before ++ (in_phase p (amended_position e m) ∷ after)))
+      Takes r p (amend_position i m) (Ok Taken) (with_positions r (before ++ (in_phase p (amended_position e m) ∷ after)))
   amends_transaction : (i m : ℕ) (e : Transaction) (before after : List (Kept Transaction)) → r.transactions ≡ before ++ (in_phase p e ∷ after) → length before ≡ i →
-      Takes r p (amend_transaction i m) Taken (with_transactions r (before ++ (in_phase p (amended_transaction e m) ∷ after)))
-  closes : Takes r p close Taken (with_closings r (suc r.closings))
+      Takes r p (amend_transaction i m) (Ok Taken) (with_transactions r (before ++ (in_phase p (amended_transaction e m) ∷ after)))
+  closes : Takes r p close (Ok Taken) (with_closings r (suc r.closings))
 
 -- one call on the register: its answer, and the register after it
 pub data Step (r : Register) : Call → Answer → Register → Type 0 where
   took : {p : Phase} {a : Call} {b : Answer} {s : Register} → Open r p → Clear (Holds r p a) → Takes r p a b s → Step r a b s
-  stood : {p : Phase} {a : Call} {c : Cause} → Open r p → First (Holds r p a) c → Step r a (Refused c) r
+  stood : {p : Phase} {a : Call} {c : Cause} → Open r p → First (Holds r p a) c → Step r a (Err c) r
 
 -- a list of calls, each on the register as those before left it
 pub data Run : Register → List Call → List Answer → Register → Type 0 where

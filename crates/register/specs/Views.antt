@@ -6,11 +6,10 @@ use Rattle.ledgers.specs.Book.{Book}
 use Rattle.positions.specs.declared.bus_positions.BusPosition.{BusPosition}
 use Rattle.positions.specs.declared.transactions.Transaction.{Transaction}
 use Rattle.positions.specs.declared.classes.Side.{Side}
-use Rattle.register.specs.declared.answers.Answer.{Answer}
-use Rattle.register.specs.declared.answers.Answer.TheVariants.{RecordNumber, Taken, Refused}
+use Rattle.register.specs.declared.answers.Accepted.TheVariants.{RecordNumber, Taken}
 use Rattle.register.specs.declared.totals.Totals.{Totals}
 use Rattle.register.specs.Totals.{of_side}
-use Rattle.register.specs.Register.{Register, Kept, Phase, day_ahead, real_time, in_phase, Call, post, transfer, area, total}
+use Rattle.register.specs.Register.{Register, Kept, Phase, day_ahead, real_time, in_phase, Call, post, transfer, area, total, Answer}
 
 -- ---- the register of two books
 
@@ -70,9 +69,9 @@ spreading who m over = area (record { participant = who; amount = m; members = o
 
 -- a call that answers a record's number, and one that answers that it was taken
 abbrev pub numbered : Result ℕ Cause → Answer
-numbered (Ok i) = RecordNumber i
-numbered (Err c) = Refused c
+numbered (Ok i) = Ok (RecordNumber i)
+numbered (Err c) = Err c
 
 abbrev pub done : Result (Unit {0}) Cause → Answer
-done (Ok _) = Taken
-done (Err c) = Refused c
+done (Ok _) = Ok Taken
+done (Err c) = Err c

@@ -1,17 +1,16 @@
 -- What is weighed before a step: classes, the limits of an hour, a closing. Assumes nothing.
-use Rattle.std.specs.Prelude.{ℕ, ◌<◌, Some, None, Ok, Err, Option, Result}
+use Rattle.std.specs.Prelude.{◌≡◌, ℕ, ◌<◌, Ok, Err, Result}
 use Rattle.refusals.specs.Answers.{Clear}
 use Rattle.refusals.specs.declared.Cause.{Cause}
-use Rattle.refusals.specs.declared.Cause.TheVariants.{OutsideLimits}
+use Rattle.refusals.specs.declared.Cause.TheVariants.{ClassNotTaken, OutsideLimits}
 use Rattle.quantities.specs.Limits.{most_buses}
 use Rattle.positions.specs.declared.classes.Class.{Class}
-use Rattle.register.specs.declared.answers.Answer.TheVariants.{Refused}
 use Rattle.register.specs.Register.{Register, Phase, Names, Holds, Step, close}
 
--- the class that a number names, if any
-abbrev pub ClassNamed : Phase → ℕ → Option Class → Type 0
-ClassNamed p k (Some c) = Names p k c
-ClassNamed p k None = (c : Class) → Names p k c → ⊥
+-- the class that a number names in a phase, or that it names none
+abbrev pub ClassNamed : Phase → ℕ → Result Class Cause → Type 0
+ClassNamed p k (Ok c) = Names p k c
+ClassNamed p k (Err e) = (e ≡ ClassNotTaken) × ((c : Class) → Names p k c → ⊥)
 
 -- ---- making and closing: a weighing that answers, and then a step that cannot refuse
 
@@ -24,4 +23,4 @@ pub data MakingRefused (n rooms roomt : ℕ) : Cause → Type 0 where
 
 abbrev pub ClosingWeighed : Register → Phase → Result (Unit {0}) Cause → Type 0
 ClosingWeighed r p (Ok _) = Clear (Holds r p close)
-ClosingWeighed r p (Err c) = Step r close (Refused c) r
+ClosingWeighed r p (Err c) = Step r close (Err c) r

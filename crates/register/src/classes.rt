@@ -1,27 +1,23 @@
-// The classes by their numbers.
+// The classes that a phase takes.
 ghost use Rattle.register.specs.Views.{phase_of};
 ghost use Rattle.register.specs.Weighed.{ClassNamed};
 
+use crate::phases::OpenPhase;
 use positions::Class;
+use refusals::Cause;
 
-// The phase that is open before any closing.
-const DAY_AHEAD: u8 = 0;
-
-// The class of a number, where it exists in the phase after so many closings: bids and offers exist day-ahead only.
-pub fn class_named(closings: u8, class: u8) -> Option<Class>
-    ensures { ClassNamed (phase_of closings) class result }
+// The class of a number, where it exists in the phase: bids and offers exist day-ahead only.
+pub fn class_named<P: OpenPhase>(number: u8) -> Result<Class, Cause>
+    ensures { ClassNamed (phase_of P.closings) number result }
 {
-    if class == 1 {
-        return Some(Class::Load);
+    let class = Class::try_from(number)?;
+    let exists = match class {
+        Class::Load | Class::Generation => true,
+        Class::IncrementOffer | Class::DecrementBid => P::TAKES_BIDS,
+    };
+    if exists {
+        Ok(class)
+    } else {
+        Err(Cause::ClassNotTaken)
     }
-    if class == 3 {
-        return Some(Class::Generation);
-    }
-    if class == 2 && closings == DAY_AHEAD {
-        return Some(Class::DecrementBid);
-    }
-    if class == 4 && closings == DAY_AHEAD {
-        return Some(Class::IncrementOffer);
-    }
-    None
 }

@@ -1,36 +1,49 @@
 // Amending a record of the open phase.
+ghost use Rattle.std.specs.Prelude.{◌≡◌};
+ghost use Rattle.register.specs.Amending.{RecordAmended};
 ghost use Rattle.hours.specs.Hours.{register_of};
+ghost use Rattle.ledgers.specs.Book.{book};
 ghost use Rattle.register.specs.Register.{Step, amend_position as amending_position, amend_transaction as amending_transaction};
 ghost use Rattle.register.specs.Views.{done};
 
 use super::Hour;
+use ledgers::Ledger;
 use positions::Position;
 use refusals::Cause;
+use register::{OpenPhase, Totals};
 
-impl<'a, const PHASE: u8> Hour<'a, PHASE> {
+impl<'a, P: OpenPhase> Hour<'a, P> {
     // Replaces the M of a bus position.
     pub fn amend_position(&mut self, record: usize, tenths: u32) -> Result<(), Cause>
-        ensures { Step (register_of self.old) (amending_position «record» tenths) (done result) (register_of self.new) }
+        ensures { Step (register_of self.old) (amending_position «record» tenths)
+            (done result) (register_of self.new) }
     {
-        let Some(old) = self.positions.open_at(record) else {
-            return Err(Cause::RecordNotOpen);
-        };
-        let totals = self.totals.amended(old.side(), old.tenths(), tenths)?;
-        self.positions.amend(record, tenths)?;
-        self.totals = totals;
-        Ok(())
+        amend(&mut self.positions, &mut self.totals, record, tenths)
     }
 
     // Replaces the M of a transaction.
     pub fn amend_transaction(&mut self, record: usize, tenths: u32) -> Result<(), Cause>
-        ensures { Step (register_of self.old) (amending_transaction «record» tenths) (done result) (register_of self.new) }
+        ensures { Step (register_of self.old) (amending_transaction «record» tenths)
+            (done result) (register_of self.new) }
     {
-        let Some(old) = self.transactions.open_at(record) else {
-            return Err(Cause::RecordNotOpen);
-        };
-        let totals = self.totals.amended(old.side(), old.tenths(), tenths)?;
-        self.transactions.amend(record, tenths)?;
-        self.totals = totals;
-        Ok(())
+        amend(&mut self.transactions, &mut self.totals, record, tenths)
     }
+}
+
+// Replaces the M of one record, in its ledger and in the total that it counts in.
+fn amend<P: Position>(
+    ledger: &mut Ledger<P>,
+    totals: &mut Totals,
+    record: usize,
+    tenths: u32,
+) -> Result<(), Cause>
+    ensures amended { RecordAmended P.meaning P.Position.amended (book ledger.old) totals.old
+        «record» tenths result (book ledger.new) totals.new }
+    ensures slice { ledger.new.records.ghost_name ≡ ledger.old.records.ghost_name }
+{
+    let old = ledger.open_at(record).ok_or(Cause::RecordNotOpen)?;
+    let amended = totals.amended(old.side(), old.tenths(), tenths)?;
+    ledger.amend(record, tenths)?;
+    *totals = amended;
+    Ok(())
 }

@@ -6,16 +6,14 @@ ghost use Rattle.register.specs.Register.{fresh};
 ghost use Rattle.register.specs.Weighed.{MakingRefused};
 
 use super::{DayAhead, Hour};
-use ledgers::Ledger;
+use ledgers::{Ledger, MAX_RECORDS};
 use positions::{BusPosition, Transaction};
 use quantities::MAX_BUSES;
 use refusals::Cause;
-use register::Totals;
+use register::{DayAheadPhase, Totals};
+use std::marker::PhantomData;
 
-// Each ledger of an hour has at most this many records.
-pub const MAX_RECORDS: usize = 4_096;
-
-// Whether an hour may be made: the first step of making one.
+// Whether an hour may be made: the first step of making one. The slices are the caller's until the second, which takes the same.
 pub fn weigh_making(
     buses: u16,
     positions: &[BusPosition],
@@ -23,22 +21,17 @@ pub fn weigh_making(
 ) -> Result<(), Cause>
     ensures { Answered (MakingRefused buses (length positions.now) (length transactions.now)) result }
 {
-    if buses < 1 {
-        return Err(Cause::OutsideLimits);
-    }
-    if buses > MAX_BUSES {
-        return Err(Cause::OutsideLimits);
-    }
-    if positions.len() > MAX_RECORDS {
-        return Err(Cause::OutsideLimits);
-    }
-    if transactions.len() > MAX_RECORDS {
+    if buses < 1
+        || buses > MAX_BUSES
+        || positions.len() > MAX_RECORDS
+        || transactions.len() > MAX_RECORDS
+    {
         return Err(Cause::OutsideLimits);
     }
     Ok(())
 }
 
-impl<'a> Hour<'a, 0> {
+impl<'a> Hour<'a, DayAheadPhase> {
     // A new hour, open day-ahead: the second step, where the first found nothing.
     pub fn new(
         buses: u16,
@@ -55,6 +48,7 @@ impl<'a> Hour<'a, 0> {
             positions,
             transactions,
             totals: Totals::none(),
+            phase: PhantomData,
         }
     }
 }

@@ -8,12 +8,12 @@ use apportion::AreaMember;
 use areas::{post_area, weigh_members};
 use positions::{BusPosition, Position, Side, Transaction};
 use refusals::Cause;
-use register::class_named;
+use register::{OpenPhase, class_named};
 
 // The largest number of a participant.
 pub const LAST_PARTICIPANT: u8 = 15;
 
-impl<'a, const PHASE: u8> Hour<'a, PHASE> {
+impl<'a, P: OpenPhase> Hour<'a, P> {
     // Posts a bus position, and answers the number of its record.
     pub fn post(
         &mut self,
@@ -22,7 +22,8 @@ impl<'a, const PHASE: u8> Hour<'a, PHASE> {
         bus: u16,
         tenths: u32,
     ) -> Result<usize, Cause>
-        ensures { Step (register_of self.old) (post_of participant class bus tenths) (numbered result) (register_of self.new) }
+        ensures { Step (register_of self.old) (post_of participant class bus tenths)
+            (numbered result) (register_of self.new) }
     {
         if bus >= self.buses {
             return Err(Cause::BusOutOfRange);
@@ -30,9 +31,7 @@ impl<'a, const PHASE: u8> Hour<'a, PHASE> {
         if participant > LAST_PARTICIPANT {
             return Err(Cause::ParticipantOutOfRange);
         }
-        let Some(class) = class_named(PHASE, class) else {
-            return Err(Cause::ClassNotTaken);
-        };
+        let class = class_named::<P>(class)?;
         let totals = self.totals.amended(class.side(), 0, tenths)?;
         let number = self
             .positions
@@ -49,7 +48,8 @@ impl<'a, const PHASE: u8> Hour<'a, PHASE> {
         sink: u16,
         tenths: u32,
     ) -> Result<usize, Cause>
-        ensures { Step (register_of self.old) (transferring participant source sink tenths) (numbered result) (register_of self.new) }
+        ensures { Step (register_of self.old) (transferring participant source sink tenths)
+            (numbered result) (register_of self.new) }
     {
         if source >= self.buses {
             return Err(Cause::BusOutOfRange);
@@ -78,7 +78,8 @@ impl<'a, const PHASE: u8> Hour<'a, PHASE> {
         tenths: u32,
         members: &[AreaMember],
     ) -> Result<usize, Cause>
-        ensures { Step (register_of self.old) (spreading participant tenths members.now) (numbered result) (register_of self.new) }
+        ensures { Step (register_of self.old) (spreading participant tenths members.now)
+            (numbered result) (register_of self.new) }
     {
         weigh_members(members, self.buses)?;
         if participant > LAST_PARTICIPANT {

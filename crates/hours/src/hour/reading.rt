@@ -16,7 +16,8 @@ impl<'a> ClosedHour<'a> {
     pub fn day_ahead(&self) -> Records<'a>
         ensures positions { DayAheadPart (closed_register self.now).positions result.positions.now }
         ensures transactions { DayAheadPart (closed_register self.now).transactions result.transactions.now }
-        ensures places { (result.positions.ref_ptr ≡ self.now.positions.records.ref_ptr) × (result.transactions.ref_ptr ≡ self.now.transactions.records.ref_ptr) }
+        ensures positions_place { result.positions.ref_ptr ≡ self.now.positions.records.ref_ptr }
+        ensures transactions_place { result.transactions.ref_ptr ≡ self.now.transactions.records.ref_ptr }
     {
         Records {
             positions: self.positions.day_ahead(),
@@ -39,7 +40,8 @@ impl<'a> ClosedHour<'a> {
     pub fn standing(&self) -> Records<'a>
         ensures positions { Entries (closed_register self.now).positions result.positions.now }
         ensures transactions { Entries (closed_register self.now).transactions result.transactions.now }
-        ensures places { (result.positions.ref_ptr ≡ self.now.positions.records.ref_ptr) × (result.transactions.ref_ptr ≡ self.now.transactions.records.ref_ptr) }
+        ensures positions_place { result.positions.ref_ptr ≡ self.now.positions.records.ref_ptr }
+        ensures transactions_place { result.transactions.ref_ptr ≡ self.now.transactions.records.ref_ptr }
     {
         Records {
             positions: self.positions.standing(),

@@ -1,22 +1,25 @@
-use Rattle.std.proofs.Common.{◌≡◌, ⊎_elim}
+use Rattle.std.proofs.Common.{◌∙◌, sym}
+use Rattle.std.proofs.lemmas.Bool.{eqb-true}
+use Rattle.std.proofs.lemmas.Result.{err_from_is_err_and}
 use Rattle.register.specs.Views.{phase_of}
-use Rattle.register.proofs.Names.{names_load, names_generation, names_decrement, names_increment, names_none}
+use Rattle.register.proofs.Names.{named_always, named_day_ahead, number_named}
 use Rattle.register.proofs.classes.class_named.Goals as goal
+use Rattle.register.proofs.classes.class_named.Goals.{in-Load, in-IncrementOffer}
 
-pub returns-then-class-eq1 : goal.returns-then-class-eq1
-returns-then-class-eq1 c = names_load (phase_of c.args.closings) c.args.class c.if-class-eq1.true
+pub returns-in_err-class : goal.returns-in_err-class
+returns-in_err-class g c =
+    let none = c.in_err-class.ensures in
+    let e = err_from_is_err_and c.from_residual.result c.from_residual.ensures.1 in
+    rw (e.1, e.2) (none.0, λ k names. none.1 k (number_named names))
 
-pub returns-then-class-eq3 : goal.returns-then-class-eq3
-returns-then-class-eq3 c = names_generation (phase_of c.args.closings) c.args.class c.if-class-eq3.true
-
-pub returns-then-closings-eq-DAY_AHEAD : goal.returns-then-closings-eq-DAY_AHEAD
-returns-then-closings-eq-DAY_AHEAD c = names_decrement c.args.closings c.args.class c.if-closings-eq-DAY_AHEAD.true c.if-class-eq2.true
-
-pub returns-then-closings-eq-DAY_AHEAD-2 : goal.returns-then-closings-eq-DAY_AHEAD-2
-returns-then-closings-eq-DAY_AHEAD-2 c = names_increment c.args.closings c.args.class c.if-closings-eq-DAY_AHEAD-2.true c.if-class-eq4.true
-
-pub returns : goal.returns
-returns c =
-    names_none c.args.closings c.args.class c.if-class-eq1.false c.if-class-eq3.false
-    (λ e z. ⊎_elim (λ (b : (c.args.class ≡ 2) × (c.args.closings ≡ 0 → ⊥)). b.1 z) (λ (f : c.args.class ≡ 2 → ⊥). f e) c.else-class-eq2.either)
-    (λ e z. ⊎_elim (λ (b : (c.args.class ≡ 4) × (c.args.closings ≡ 0 → ⊥)). b.1 z) (λ (f : c.args.class ≡ 4 → ⊥). f e) c.else-class-eq4.either)
+pub returns-then-exists : goal.returns-then-exists
+returns-then-exists g c =
+    let class = c.in_ok-class.class in
+    let k = c.args.number in
+    let closings = g.P.OpenPhase.closings in
+    elim c.match-class.branch [
+      | in-Load w ↦ named_always (phase_of closings) class k c.in_ok-class.ensures w.in-Load.is
+      | in-IncrementOffer w ↦
+          (let none = eqb-true closings 0 (sym g.P.OpenPhase.bids ∙ sym w.TAKES_BIDS-exists.ensures ∙ sym w.exists-is ∙ c.if-exists.true) in
+          rw none (named_day_ahead class k c.in_ok-class.ensures))
+    ]

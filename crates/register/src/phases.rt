@@ -1,0 +1,49 @@
+// The open phases of an hour, as types.
+ghost use Rattle.std.specs.Prelude.{◌≡◌, ◌==◌, ℕ, ◌<◌, Bool, true, false, refl};
+ghost use Rattle.std.proofs.Common.{lit≤};
+
+// A phase that takes calls.
+pub trait OpenPhase {
+    // the number of closings before
+    ghost closings: { ℕ };
+
+    // Bids and offers exist day-ahead only.
+    const TAKES_BIDS: bool;
+
+    ghost TAKES_BIDS: { Bool };
+
+    // the second closing ends the hour
+    ghost few: { closings < 2 };
+
+    ghost bids: { TAKES_BIDS ≡ (closings == 0) };
+}
+
+// Before any closing.
+pub struct DayAheadPhase;
+
+// After the first closing.
+pub struct RealTimePhase;
+
+impl OpenPhase for DayAheadPhase {
+    ghost closings = { 0 };
+
+    const TAKES_BIDS: bool = true;
+
+    ghost TAKES_BIDS = { true };
+
+    ghost few = { lit≤ tt };
+
+    ghost bids = { refl };
+}
+
+impl OpenPhase for RealTimePhase {
+    ghost closings = { 1 };
+
+    const TAKES_BIDS: bool = false;
+
+    ghost TAKES_BIDS = { false };
+
+    ghost few = { lit≤ tt };
+
+    ghost bids = { refl };
+}
