@@ -6,6 +6,7 @@ use Rattle.refusals.specs.Causes.{number}
 use Rattle.refusals.specs.declared.Cause.{Cause}
 use Rattle.refusals.specs.declared.Cause.TheVariants.{Unbalanced, OutsideLimits}
 use Rattle.refusals.proofs.Numbers.{at_most}
+use Rattle.ledgers.specs.Limits.{most_records}
 use Rattle.ledgers.specs.Book.{Book, empty, closed}
 use Rattle.positions.specs.declared.bus_positions.BusPosition.{BusPosition}
 use Rattle.positions.specs.declared.transactions.Transaction.{Transaction}
@@ -47,7 +48,7 @@ module _ (n rooms roomt : ℕ) where
         few = lit≤ tt;
         marked = rw (p, q) ((omega arith, λ x. refl), (omega arith, λ x. refl));
         summed = rw (z, p, q) (λ s. let y = none_side s in omega arith);
-        sized = rw (p, q) (at_most rooms 4096 (λ l. clear OutsideLimits (many_positions l)), at_most roomt 4096 (λ l. clear OutsideLimits (many_transactions l)));
+        sized = rw (p, q) (at_most rooms most_records (λ l. clear OutsideLimits (many_positions l)), at_most roomt most_records (λ l. clear OutsideLimits (many_transactions l)));
         sound = rw (p, q) (fresh_sound n rooms roomt);
       }
 

@@ -3,6 +3,7 @@ use Rattle.std.specs.Prelude.{◌≡◌, ℕ, zero, suc, ◌≤◌, List, ◌++�
 use Rattle.refusals.specs.declared.Cause.{Cause}
 use Rattle.apportion.specs.declared.items.AreaMember.{AreaMember}
 use Rattle.ledgers.specs.Book.{Book}
+use Rattle.ledgers.specs.Limits.{most_records}
 use Rattle.positions.specs.declared.bus_positions.BusPosition.{BusPosition}
 use Rattle.positions.specs.declared.transactions.Transaction.{Transaction}
 use Rattle.positions.specs.declared.classes.Side.{Side}
@@ -50,7 +51,7 @@ abbrev pub Summed : Totals → Register → Phase → Type 0
 Summed t r p = (s : Side) → of_side t s ≡ total r p s
 
 abbrev pub Sized : {P : Type 0} → Book P → Type 0
-Sized b = b.capacity ≤ 4096
+Sized b = b.capacity ≤ most_records
 
 -- all records, whatever their phase
 abbrev pub Entries : {P : Type 0} → List (Kept P) → List P → Type 0

@@ -4,6 +4,7 @@ use Rattle.refusals.specs.Answers.{Clear}
 use Rattle.refusals.specs.declared.Cause.{Cause}
 use Rattle.refusals.specs.declared.Cause.TheVariants.{ClassNotTaken, OutsideLimits}
 use Rattle.quantities.specs.Limits.{most_buses}
+use Rattle.ledgers.specs.Limits.{most_records}
 use Rattle.positions.specs.declared.classes.Class.{Class}
 use Rattle.register.specs.Register.{Register, Phase, Names, Holds, Step, close}
 
@@ -18,8 +19,8 @@ ClassNamed p k (Err e) = (e ≡ ClassNotTaken) × ((c : Class) → Names p k c �
 pub data MakingRefused (n rooms roomt : ℕ) : Cause → Type 0 where
   no_bus : n < 1 → MakingRefused n rooms roomt OutsideLimits
   many_buses : most_buses < n → MakingRefused n rooms roomt OutsideLimits
-  many_positions : 4096 < rooms → MakingRefused n rooms roomt OutsideLimits
-  many_transactions : 4096 < roomt → MakingRefused n rooms roomt OutsideLimits
+  many_positions : most_records < rooms → MakingRefused n rooms roomt OutsideLimits
+  many_transactions : most_records < roomt → MakingRefused n rooms roomt OutsideLimits
 
 abbrev pub ClosingWeighed : Register → Phase → Result (Unit {0}) Cause → Type 0
 ClosingWeighed r p (Ok _) = Clear (Holds r p close)
