@@ -23,7 +23,7 @@ pub fn carry(exact: &[Grains], row: &mut [Cents]) -> Result<(), Cause>
     Ok(())
 }
 
-// By its place, as in the split.
+// Written by its place, as in the split.
 fn fill_carried(exact: &[Grains], row: &mut [Cents])
     requires { length row.old ≡ length exact.now }
     ensures { cents row.new ≡ carried_row 10000 (grains exact.now) }

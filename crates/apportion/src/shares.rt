@@ -34,7 +34,8 @@ pub fn split<Q: Quantity, I: WeightedItem>(
     Ok(())
 }
 
-// The sum of the weights, where an amount can be split over it. It stops before it would wrap.
+// The sum of the weights, where an amount can be split over it. It stops before it would wrap: a `for` that returns, since with
+// `try_fold` the test would stand in a closure.
 pub fn weight_sum<I: WeightedItem>(items: &[I]) -> Result<u64, Cause>
     ensures answer { Answered (SumRefused (map I.WeightedItem.weighs items.now)) result }
     ensures value { IfOk result (λ s. s ≡ whole (map I.WeightedItem.weighs items.now)) }
@@ -53,7 +54,7 @@ pub fn weight_sum<I: WeightedItem>(items: &[I]) -> Result<u64, Cause>
     Ok(sum)
 }
 
-// By its place: after `zip(row.iter_mut())` a proof knows nothing of what the row holds.
+// Written by its place: after `zip(row.iter_mut())` a proof knows nothing of what the row holds.
 fn fill<Q: Quantity, I: WeightedItem>(amount: Q, items: &[I], sum: u64, row: &mut [Q])
     requires length { length row.old ≡ length items.now }
     requires sum { sum ≡ whole (map I.WeightedItem.weighs items.now) }

@@ -56,7 +56,8 @@ pub fn post_area(
     Ok(first)
 }
 
-// An M of one participant, over the members of a whole area.
+// An M of one participant, over the members of a whole area. That a ledger stays in its slice (`SameSlice`) is said by each call, since
+// no type can hold a fact of two moments.
 #[derive(Drop)]
 struct AreaLoad<'a> {
     participant: u8,

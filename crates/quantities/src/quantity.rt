@@ -2,7 +2,8 @@
 ghost use Rattle.std.specs.Prelude.{◌≡◌, ℤ, ◌+ℤ◌, ◌-ℤ◌};
 ghost use Rattle.quantities.specs.Exact.{Exact};
 
-// Each unit is a type of its own, so that two units cannot be added. What is added or taken away here is of one unit.
+// Each unit is a type of its own, so that two units cannot be added. What is added or taken away here is of one unit. A number
+// becomes a quantity by `from_units` and not by `From`: an `into` would not name the unit.
 pub trait Quantity: Copy {
     ghost units: { Self → ℤ };
 

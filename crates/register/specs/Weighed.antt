@@ -1,8 +1,8 @@
--- What is weighed before a step: classes, the limits of an hour, a closing. Assumes nothing.
-use Rattle.std.specs.Prelude.{◌≡◌, ℕ, ◌<◌, Ok, Err, Result}
+-- What is weighed before a step: buses, participants, classes, the limits of an hour, a closing. Assumes nothing.
+use Rattle.std.specs.Prelude.{◌≡◌, ℕ, ◌<◌, ◌≤◌, Ok, Err, Result}
 use Rattle.refusals.specs.Answers.{Clear}
 use Rattle.refusals.specs.declared.Cause.{Cause}
-use Rattle.refusals.specs.declared.Cause.TheVariants.{ClassNotTaken, OutsideLimits}
+use Rattle.refusals.specs.declared.Cause.TheVariants.{BusOutOfRange, ParticipantOutOfRange, ClassNotTaken, OutsideLimits}
 use Rattle.quantities.specs.Limits.{most_buses}
 use Rattle.ledgers.specs.Limits.{most_records}
 use Rattle.positions.specs.declared.classes.Class.{Class}
@@ -12,6 +12,15 @@ use Rattle.register.specs.Register.{Register, Phase, Names, Holds, Step, close}
 abbrev pub ClassNamed : Phase → ℕ → Result Class Cause → Type 0
 ClassNamed p k (Ok c) = Names p k c
 ClassNamed p k (Err e) = (e ≡ ClassNotTaken) × ((c : Class) → Names p k c → ⊥)
+
+-- whether a bus is one of n, and whether there is a participant of that number
+abbrev pub BusWeighed : ℕ → ℕ → Result (Unit {0}) Cause → Type 0
+BusWeighed n i (Ok _) = i < n
+BusWeighed n i (Err e) = (e ≡ BusOutOfRange) × (n ≤ i)
+
+abbrev pub ParticipantWeighed : ℕ → Result (Unit {0}) Cause → Type 0
+ParticipantWeighed who (Ok _) = who ≤ 15
+ParticipantWeighed who (Err e) = (e ≡ ParticipantOutOfRange) × (15 < who)
 
 -- ---- making and closing: a weighing that answers, and then a step that cannot refuse
 

@@ -1,6 +1,7 @@
 // Posting to the open phase.
 ghost use Rattle.hours.specs.Hours.{register_of};
 ghost use Rattle.register.specs.Register.{Step};
+ghost use Rattle.register.specs.Weighed.{BusWeighed, ParticipantWeighed};
 ghost use Rattle.register.specs.Views.{numbered, posting as post_of, spreading, transferring};
 
 use super::Hour;
@@ -9,6 +10,8 @@ use areas::{post_area, weigh_members};
 use positions::{BusPosition, Position, Side, Transaction};
 use refusals::Cause;
 use register::{OpenPhase, class_named};
+
+// The calls take what a line of an hour names, one by one. As one value, a call is a `Call` of call_lists.
 
 // The largest number of a participant.
 pub const LAST_PARTICIPANT: u8 = 15;
@@ -25,12 +28,8 @@ impl<'a, P: OpenPhase> Hour<'a, P> {
         ensures { Step (register_of self.old) (post_of participant class bus tenths)
             (numbered result) (register_of self.new) }
     {
-        if bus >= self.buses {
-            return Err(Cause::BusOutOfRange);
-        }
-        if participant > LAST_PARTICIPANT {
-            return Err(Cause::ParticipantOutOfRange);
-        }
+        self.weigh_bus(bus)?;
+        weigh_participant(participant)?;
         let class = class_named::<P>(class)?;
         let totals = self.totals.amended(class.side(), 0, tenths)?;
         let number = self
@@ -51,15 +50,9 @@ impl<'a, P: OpenPhase> Hour<'a, P> {
         ensures { Step (register_of self.old) (transferring participant source sink tenths)
             (numbered result) (register_of self.new) }
     {
-        if source >= self.buses {
-            return Err(Cause::BusOutOfRange);
-        }
-        if sink >= self.buses {
-            return Err(Cause::BusOutOfRange);
-        }
-        if participant > LAST_PARTICIPANT {
-            return Err(Cause::ParticipantOutOfRange);
-        }
+        self.weigh_bus(source)?;
+        self.weigh_bus(sink)?;
+        weigh_participant(participant)?;
         let totals = self.totals.amended(Side::Transacting, 0, tenths)?;
         if source == sink {
             return Err(Cause::SourceIsSink);
@@ -82,12 +75,30 @@ impl<'a, P: OpenPhase> Hour<'a, P> {
             (numbered result) (register_of self.new) }
     {
         weigh_members(members, self.buses)?;
-        if participant > LAST_PARTICIPANT {
-            return Err(Cause::ParticipantOutOfRange);
-        }
+        weigh_participant(participant)?;
         let totals = self.totals.amended(Side::Withdrawing, 0, tenths)?;
         let first = post_area(&mut self.positions, participant, tenths, members)?;
         self.totals = totals;
         Ok(first)
     }
+
+    // Whether a bus is one of the hour's.
+    fn weigh_bus(&self, bus: u16) -> Result<(), Cause>
+        ensures { BusWeighed self.now.buses bus result }
+    {
+        if bus >= self.buses {
+            return Err(Cause::BusOutOfRange);
+        }
+        Ok(())
+    }
+}
+
+// Whether there is a participant of this number.
+fn weigh_participant(participant: u8) -> Result<(), Cause>
+    ensures { ParticipantWeighed participant result }
+{
+    if participant > LAST_PARTICIPANT {
+        return Err(Cause::ParticipantOutOfRange);
+    }
+    Ok(())
 }
