@@ -23,7 +23,7 @@ pub fn carry(exact: &[Grains], row: &mut [Cents]) -> Result<(), Cause>
     Ok(())
 }
 
-// Written by its place, as in the split.
+// Each amount's cents are written at its place: after `zip(row.iter_mut())` nothing can be proved of what the row holds.
 fn fill_carried(exact: &[Grains], row: &mut [Cents])
     requires { length row.old ≡ length exact.now }
     ensures { cents row.new ≡ carried_row 10000 (grains exact.now) }

@@ -10,7 +10,7 @@ pub(crate) struct Running {
     divisor: u64,
     exact: i128,
     given: i128,
-    ghost some: { 0 < divisor },
+    ghost positive: { 0 < divisor },
     ghost rounded: { given ≡ floor exact divisor },
 }
 

@@ -15,7 +15,8 @@ use refusals::Cause;
 // The largest sum of weights that an amount is split over.
 const MAX_WEIGHT_SUM: u64 = 2_000_000_000;
 
-// Splits the amount over the items by their weights, one place of the row for each item. A refusal leaves the row as it was.
+// Splits the amount over the items by their weights, one place of the row for each item. A refusal leaves the row as it was. The
+// items are read and the row is written, so no value holds both.
 pub fn split<Q: Quantity, I: WeightedItem>(
     amount: Q,
     items: &[I],
@@ -35,7 +36,7 @@ pub fn split<Q: Quantity, I: WeightedItem>(
 }
 
 // The sum of the weights, where an amount can be split over it. It stops before it would wrap: a `for` that returns, since with
-// `try_fold` the test would stand in a closure.
+// `try_fold` it would answer an `Option` that is taken apart again.
 pub fn weight_sum<I: WeightedItem>(items: &[I]) -> Result<u64, Cause>
     ensures answer { Answered (SumRefused (map I.WeightedItem.weighs items.now)) result }
     ensures value { IfOk result (λ s. s ≡ whole (map I.WeightedItem.weighs items.now)) }
@@ -54,7 +55,7 @@ pub fn weight_sum<I: WeightedItem>(items: &[I]) -> Result<u64, Cause>
     Ok(sum)
 }
 
-// Written by its place: after `zip(row.iter_mut())` a proof knows nothing of what the row holds.
+// Each share is written at its place: after `zip(row.iter_mut())` nothing can be proved of what the row holds.
 fn fill<Q: Quantity, I: WeightedItem>(amount: Q, items: &[I], sum: u64, row: &mut [Q])
     requires length { length row.old ≡ length items.now }
     requires sum { sum ≡ whole (map I.WeightedItem.weighs items.now) }

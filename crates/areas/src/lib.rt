@@ -44,10 +44,7 @@ pub fn post_area(
         (λ _. book ledger.new ≡ book ledger.old) }
     ensures slice { SameSlice ledger.old ledger.new }
 {
-    if members.len() > MAX_RECORDS {
-        return Err(Cause::LedgerFull);
-    }
-    if members.len() > ledger.room() {
+    if members.len() > MAX_RECORDS || members.len() > ledger.room() {
         return Err(Cause::LedgerFull);
     }
     let load = AreaLoad::new(participant, tenths, members)?;
@@ -95,7 +92,7 @@ impl<'a> AreaLoad<'a> {
             (shares (pos self.now.tenths) (shares_by self.now.members.now))) }
         ensures slice { SameSlice ledger.old ledger.new }
     {
-        // An hour uses no heap, so the parts are on the stack, in a row for the longest area.
+        // The one split there is fills a row, and an hour uses no heap: so the row is on the stack, long enough for the longest area.
         let mut row = [Megawatts(0); MAX_RECORDS];
         let parts = &mut row[..self.members.len()];
         self.share_out(parts);

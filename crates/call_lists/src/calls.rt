@@ -5,6 +5,7 @@ use apportion::AreaMember;
 pub enum Call<'a> {
     Post {
         participant: u8,
+        // a number, since a wrong one is answered too
         class: u8,
         bus: u16,
         tenths: u32,

@@ -78,7 +78,7 @@ fn make_calls<P: OpenPhase>(
     ensures { PhaseRun (register_of hour.old) (phase_of P.closings)
         calls.now answers.old result answers.new (register_of hour.new) }
 {
-    // Written by its place: a proof knows nothing of what a zip with `iter_mut` wrote.
+    // Each answer is written at its place: after a zip with `iter_mut` nothing can be proved of what the row holds.
     for (i, &call) in calls.iter().enumerate() {
         let Some(answer) = make_call(hour, call) else {
             answers[i] = Ok(Accepted::Taken);
@@ -129,6 +129,6 @@ pub fn make_call<P: OpenPhase>(hour: &mut Hour<P>, call: Call) -> Option<Answer>
             hour.amend_transaction(record, tenths)
                 .map(|()| Accepted::Taken),
         ),
-        Call::Close => Some(Err(hour.weigh_closing().err()?)),
+        Call::Close => hour.weigh_closing().err().map(Err),
     }
 }

@@ -1,4 +1,4 @@
--- The register that an hour stands for. P is the type of its open phase, and p has the members of it. Assumes nothing.
+-- The register that an hour stands for. P is the type of its open phase, and p its ghost members. Assumes nothing.
 use Rattle.ledgers.specs.Book.{book, closed_book}
 use Rattle.hours.specs.declared.hour.ClosedHour.{ClosedHour}
 use Rattle.hours.specs.declared.hour.Hour.{Hour}

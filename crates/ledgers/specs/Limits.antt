@@ -1,4 +1,4 @@
--- The limit of a ledger. Assumes nothing.
+-- The most records of one ledger of an hour. Assumes nothing.
 use Rattle.std.specs.Prelude.{ℕ}
 
 abbrev pub most_records : ℕ

@@ -15,7 +15,8 @@ pub struct Ledger<'a, P> {
     ghost marked: { mark ≤ len },
 }
 
-// A ledger that no call changes any more. What stands before `mark` is of the day-ahead phase.
+// A ledger that no call changes any more. What stands before `mark` is of the day-ahead phase. The slice is not cut to what stands,
+// since its length is the room that the ledger had.
 #[derive(Drop)]
 pub struct ClosedLedger<'a, P> {
     records: &'a [P],
@@ -26,7 +27,7 @@ pub struct ClosedLedger<'a, P> {
 }
 
 impl<'a, P: Position> Ledger<'a, P> {
-    ghost use Rattle.ledgers.specs.Book.{Amended, OpenAt, Appended, IsOpen, book, closed, closed_book, empty};
+    ghost use Rattle.ledgers.specs.Book.{Amended, OpenAt, Appended, IsOpen, SameSlice, book, closed, closed_book, empty};
 
     // An empty ledger, with room for as many records as the slice has.
     pub fn new(records: &'a mut [P]) -> Ledger<'a, P>
@@ -58,8 +59,7 @@ impl<'a, P: Position> Ledger<'a, P> {
     // Adds a record, and answers its number.
     pub fn post(&mut self, record: P) -> Result<usize, Cause>
         ensures posted { Appended (book self.old) «record» result (book self.new) }
-        ensures slice { self.new.records.ghost_name ≡ self.old.records.ghost_name }
-        ensures place { self.new.records.ref_ptr ≡ self.old.records.ref_ptr }
+        ensures slice { SameSlice self.old self.new }
     {
         if self.len == self.records.len() {
             return Err(Cause::LedgerFull);
@@ -73,8 +73,7 @@ impl<'a, P: Position> Ledger<'a, P> {
     // Replaces the M of one record of the open phase.
     pub fn amend(&mut self, number: usize, tenths: u32) -> Result<(), Cause>
         ensures amended { Amended P.Position.amended (book self.old) number tenths result (book self.new) }
-        ensures slice { self.new.records.ghost_name ≡ self.old.records.ghost_name }
-        ensures place { self.new.records.ref_ptr ≡ self.old.records.ref_ptr }
+        ensures slice { SameSlice self.old self.new }
     {
         if !self.is_open(number) {
             return Err(Cause::RecordNotOpen);
@@ -95,7 +94,7 @@ impl<'a, P: Position> Ledger<'a, P> {
 
     // Whether the record of that number is one of the open phase.
     fn is_open(&self, number: usize) -> bool
-        ensures { IsTrue result ↔ IsOpen (book self.now) number }
+        ensures { IsTrue result ↔ (IsOpen (book self.now) number) }
     {
         (self.mark..self.len).contains(&number)
     }
@@ -135,7 +134,7 @@ impl<'a, P: Position> ClosedLedger<'a, P> {
         ensures records { result.now ≡ (closed_book self.now).items }
         ensures place { result.ref_ptr ≡ self.now.records.ref_ptr }
     {
-        &self.records[..self.len]
+        &self.records[0..self.len]
     }
 
     // The records of the day-ahead phase: the front part of the slice itself.

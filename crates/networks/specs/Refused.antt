@@ -1,4 +1,4 @@
--- What is refused by 13 alone: one limit after the other is kept, or the first that is not is a refusal. Assumes nothing.
+-- Limits weighed one after the other: all are kept, or one is passed, and then the cause is 13. Assumes nothing.
 use Rattle.std.specs.Prelude.{◌≡◌, ℕ, zero, suc, ◌<◌, ◌≤◌, ◌⊎◌}
 use Rattle.std.proofs.Common.{inl, inr, ⊎_elim, subst, arith}
 use Rattle.std.proofs.lemmas.Bool.{cases_lt}

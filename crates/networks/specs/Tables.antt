@@ -43,11 +43,11 @@ PricesWithin ps = EachIndex ps (λ j. unsigned_abs (price_at ps j) ≤ most_pric
 abbrev pub FactorsWithin : List Factor → Type 0
 FactorsWithin fs = EachIndex fs (λ k. unsigned_abs (factor_at fs k) ≤ most_factor)
 
--- f lies close to each factor of a row. Opaque in proofs, as `Close` is: a search that unfolds both stops at its limits
+-- f lies close to each factor of a row; it and `Close` are unfolded by name alone
 unfoldable pub CloseTo : ℤ → List Factor → Type 0
 CloseTo f row = EachIndex row (λ k. unsigned_abs (f -ℤ factor_at row k) ≤ most_spread)
 
--- any two factors of a row lie close together
+-- every two factors of a row lie close together
 unfoldable pub Close : List Factor → Type 0
 Close row = EachIndex row (λ i. CloseTo (factor_at row i) row)
 

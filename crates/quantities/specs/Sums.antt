@@ -1,5 +1,5 @@
 -- Sums over the first n indices and over a list, and a row told place by place. Assumes nothing.
-use Rattle.std.specs.Prelude.{ℕ, zero, suc, ◌+◌, cond, List, [], ◌∷◌, map, ℤ, pos, ◌+ℤ◌, ◌==◌, slice_index, slice_index_or}
+use Rattle.std.specs.Prelude.{ℕ, zero, suc, ◌+◌, if◌then◌else◌, List, [], ◌∷◌, map, ℤ, pos, ◌+ℤ◌, ◌==◌, slice_index, slice_index_or}
 use Rattle.std.specs.List.{range_with_len}
 
 -- f 0 + f 1 + .. + f (n - 1)
@@ -22,7 +22,7 @@ count_of f (x ∷ xs) = f x + count_of f xs
 
 -- 1 where two numbers are the same, else 0
 abbrev pub same : ℕ → ℕ → ℕ
-same a b = cond (a == b) 1 0
+same a b = if a == b then 1 else 0
 
 -- what stands at place i of a list of numbers, and nought past its end
 abbrev pub at : List ℤ → ℕ → ℤ

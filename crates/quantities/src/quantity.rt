@@ -3,7 +3,7 @@ ghost use Rattle.std.specs.Prelude.{◌≡◌, ℤ, ◌+ℤ◌, ◌-ℤ◌};
 ghost use Rattle.quantities.specs.Exact.{Exact};
 
 // Each unit is a type of its own, so that two units cannot be added. What is added or taken away here is of one unit. A number
-// becomes a quantity by `from_units` and not by `From`: an `into` would not name the unit.
+// becomes a quantity by `from_units`, and a quantity a number by `units`: with `From`, an `into` would hide which unit is meant.
 pub trait Quantity: Copy {
     ghost units: { Self → ℤ };
 
@@ -13,7 +13,7 @@ pub trait Quantity: Copy {
     fn from_units(count: i64) -> Self
         ensures { units result ≡ count };
 
-    // The sum, or None where it does not fit 64 bits.
+    // The sum, or None where it does not fit 64 bits. By `?`, since `map(Self::from_units)`, whose result is `Self`, is not covered.
     fn checked_add(self, other: Self) -> Option<Self>
         ensures { Exact units result (units self +ℤ units other) }
     {

@@ -48,7 +48,7 @@ pub enum Cause {
 }
 
 impl Cause {
-    // The number of the cause, from 1 to 16. No two causes have the same.
+    // The number of the cause, from 1 to 16. No two causes have the same. A method, since `u8::from` would not say what the number is.
     pub fn number(self) -> u8
         ensures value { result ≡ number self }
         ensures apart { (d : Cause) → number d ≡ result → d ≡ self }

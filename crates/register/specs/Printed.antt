@@ -3,6 +3,6 @@ use Rattle.std.specs.Prelude.{ℕ, List, ◌++◌, codes, decimal}
 use Rattle.register.specs.declared.answers.Accepted.{Accepted}
 use Rattle.register.specs.declared.answers.Accepted.TheVariants.{RecordNumber, Taken}
 
-abbrev pub printed : Accepted → List ℕ
-printed (RecordNumber i) = codes "record " ++ decimal i
-printed Taken = codes "taken"
+abbrev pub text_of : Accepted → List ℕ
+text_of (RecordNumber i) = codes "record " ++ decimal i
+text_of Taken = codes "taken"

@@ -1,6 +1,6 @@
 // What a call on an open hour answers.
 ghost use Rattle.std.specs.Prelude.{Some};
-ghost use Rattle.register.specs.Printed.{printed};
+ghost use Rattle.register.specs.Printed.{text_of};
 
 use refusals::Cause;
 use std::fmt;
@@ -16,7 +16,7 @@ pub enum Accepted {
 pub type Answer = Result<Accepted, Cause>;
 
 impl fmt::Display for Accepted {
-    ghost output = { λ a. Some (printed a) };
+    ghost output = { λ a. Some (text_of a) };
 
     fn fmt<W: fmt::Write>(&self, f: &mut fmt::Formatter<W>) -> fmt::Result {
         match self {

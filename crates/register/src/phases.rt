@@ -4,7 +4,7 @@ ghost use Rattle.std.proofs.Common.{lit≤};
 
 // A phase that takes calls.
 pub trait OpenPhase {
-    // the number of closings before
+    // the number of closings before it opens
     ghost closings: { ℕ };
 
     // Bids and offers exist day-ahead only.
@@ -13,7 +13,7 @@ pub trait OpenPhase {
     ghost TAKES_BIDS: { Bool };
 
     // the second closing ends the hour
-    ghost few: { closings < 2 };
+    ghost two_phases: { closings < 2 };
 
     ghost bids: { TAKES_BIDS ≡ (closings == 0) };
 }
@@ -31,7 +31,7 @@ impl OpenPhase for DayAheadPhase {
 
     ghost TAKES_BIDS = { true };
 
-    ghost few = { lit≤ tt };
+    ghost two_phases = { lit≤ tt };
 
     ghost bids = { refl };
 }
@@ -43,7 +43,7 @@ impl OpenPhase for RealTimePhase {
 
     ghost TAKES_BIDS = { false };
 
-    ghost few = { lit≤ tt };
+    ghost two_phases = { lit≤ tt };
 
     ghost bids = { refl };
 }

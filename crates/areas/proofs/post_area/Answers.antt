@@ -5,12 +5,13 @@ use Rattle.ledgers.specs.Book.{book}
 use Rattle.areas.specs.Areas.{many_members, no_room}
 use Rattle.areas.proofs.Loads.{area_full, area_apart, area_clear}
 use Rattle.areas.proofs.post_area.Goals as goal
+use Rattle.areas.proofs.post_area.Goals.{then-members-gt-MAX_RECORDS-via-then-members-gt-MAX_RECORDS, then-members-gt-MAX_RECORDS-via-else-members-gt-MAX_RECORDS+then-members-room}
 
 pub returns-then-members-gt-MAX_RECORDS-clause-answer : goal.returns-then-members-gt-MAX_RECORDS-clause-answer
-returns-then-members-gt-MAX_RECORDS-clause-answer c = area_full _ _ (many_members c.if-members-gt-MAX_RECORDS.true)
-
-pub returns-then-members-room-clause-answer : goal.returns-then-members-room-clause-answer
-returns-then-members-room-clause-answer c = area_full _ _ (no_room (omega (arith, c.room.ensures)))
+returns-then-members-gt-MAX_RECORDS-clause-answer c = elim c.then-members-gt-MAX_RECORDS.branch [
+  | then-members-gt-MAX_RECORDS-via-then-members-gt-MAX_RECORDS w ↦ area_full _ _ (many_members w.if-members-gt-MAX_RECORDS.true)
+  | then-members-gt-MAX_RECORDS-via-else-members-gt-MAX_RECORDS+then-members-room w ↦ area_full _ _ (no_room (omega (arith, w.room.ensures, w.if-members-room.true)))
+]
 
 -- the members find room, since what stands is no longer than the slice
 pub returns-in_err-load-clause-answer : goal.returns-in_err-load-clause-answer

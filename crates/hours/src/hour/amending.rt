@@ -2,7 +2,7 @@
 ghost use Rattle.std.specs.Prelude.{◌≡◌};
 ghost use Rattle.register.specs.Amending.{RecordAmended};
 ghost use Rattle.hours.specs.Hours.{register_of};
-ghost use Rattle.ledgers.specs.Book.{book};
+ghost use Rattle.ledgers.specs.Book.{SameSlice, book};
 ghost use Rattle.register.specs.Register.{Step, amend_position as amending_position, amend_transaction as amending_transaction};
 ghost use Rattle.register.specs.Views.{done};
 
@@ -39,7 +39,7 @@ fn amend<P: Position>(
 ) -> Result<(), Cause>
     ensures amended { RecordAmended P.meaning P.Position.amended (book ledger.old) totals.old
         «record» tenths result (book ledger.new) totals.new }
-    ensures slice { ledger.new.records.ghost_name ≡ ledger.old.records.ghost_name }
+    ensures slice { SameSlice ledger.old ledger.new }
 {
     let old = ledger.open_at(record).ok_or(Cause::RecordNotOpen)?;
     let amended = totals.amended(old.side(), old.tenths(), tenths)?;

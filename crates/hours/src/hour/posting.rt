@@ -17,7 +17,7 @@ use register::{OpenPhase, class_named};
 pub const LAST_PARTICIPANT: u8 = 15;
 
 impl<'a, P: OpenPhase> Hour<'a, P> {
-    // Posts a bus position, and answers the number of its record.
+    // Posts a bus position, and answers the number of its record. The class is a number, since a wrong one is answered too.
     pub fn post(
         &mut self,
         participant: u8,

@@ -35,7 +35,7 @@ impl Radial {
 }
 
 fn within_limits(uppers: &[u16], constraints: &[RadialConstraint]) -> bool
-    ensures { IsTrue result ↔ RadialWithin uppers.now constraints.now }
+    ensures { IsTrue result ↔ (RadialWithin uppers.now constraints.now) }
 {
     uppers.len() < usize::from(MAX_BUSES)
         && uppers_smaller(uppers)
@@ -44,7 +44,7 @@ fn within_limits(uppers: &[u16], constraints: &[RadialConstraint]) -> bool
 }
 
 fn uppers_smaller(uppers: &[u16]) -> bool
-    ensures { IsTrue result ↔ Falling uppers.now }
+    ensures { IsTrue result ↔ (Falling uppers.now) }
 {
     uppers
         .iter()

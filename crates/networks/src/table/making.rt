@@ -34,7 +34,7 @@ impl Table {
 }
 
 fn within_limits(buses: u16, prices: &[ShadowPrice], factors: &[Factor]) -> bool
-    ensures { IsTrue result ↔ TableWithin buses prices.now factors.now }
+    ensures { IsTrue result ↔ (TableWithin buses prices.now factors.now) }
 {
     (1..=MAX_BUSES).contains(&buses)
         && prices.len() <= usize::from(MAX_CONSTRAINTS)
@@ -45,7 +45,7 @@ fn within_limits(buses: u16, prices: &[ShadowPrice], factors: &[Factor]) -> bool
 }
 
 fn prices_within(prices: &[ShadowPrice]) -> bool
-    ensures { IsTrue result ↔ PricesWithin prices.now }
+    ensures { IsTrue result ↔ (PricesWithin prices.now) }
 {
     prices
         .iter()
@@ -54,7 +54,7 @@ fn prices_within(prices: &[ShadowPrice]) -> bool
 
 // Beside `prices_within`, since one function for both would take the size as a closure and be longer than the two.
 fn factors_within(factors: &[Factor]) -> bool
-    ensures { IsTrue result ↔ FactorsWithin factors.now }
+    ensures { IsTrue result ↔ (FactorsWithin factors.now) }
 {
     factors
         .iter()
@@ -69,17 +69,17 @@ fn rows_close(buses: usize, factors: &[Factor]) -> bool
     factors.chunks_exact(buses).all(close)
 }
 
-// Whether any two factors of a row lie close together.
+// Whether every two factors of a row lie close together.
 #[tactic(auto, unfolding(crate::specs::Tables::Close))]
 fn close(row: &[Factor]) -> bool
-    ensures { IsTrue result ↔ Close row.now }
+    ensures { IsTrue result ↔ (Close row.now) }
 {
     row.iter().all(|factor| close_to(*factor, row))
 }
 
 #[tactic(auto, unfolding(crate::specs::Tables::CloseTo))]
 fn close_to(factor: Factor, row: &[Factor]) -> bool
-    ensures { IsTrue result ↔ CloseTo factor.0 row.now }
+    ensures { IsTrue result ↔ (CloseTo factor.0 row.now) }
 {
     row.iter()
         .all(|other| factor.distance(*other) <= MAX_SPREAD)

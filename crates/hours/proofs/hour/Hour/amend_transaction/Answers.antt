@@ -4,8 +4,8 @@ use Rattle.hours.proofs.hour.Hour.amend_transaction.Goals as goal
 
 pub invariant_of-self : goal.invariant_of-self
 invariant_of-self g c =
-    let l = (transaction_amended (lawful c.args.self.now g.P.OpenPhase.few) c.args.«record» c.args.tenths c.amend.result _ c.amend.new.totals c.amend.ensures.amended).lawful in
+    let l = (transaction_amended (lawful c.args.self.now g.P.OpenPhase.two_phases) c.args.«record» c.args.tenths c.amend.result _ c.amend.new.totals c.amend.ensures.amended).lawful in
     record { marked = l.marked; summed = l.summed; sized = l.sized; sound = l.sound }
 
 pub returns : goal.returns
-returns g c = (transaction_amended (lawful c.args.self.now g.P.OpenPhase.few) c.args.«record» c.args.tenths c.amend.result _ c.amend.new.totals c.amend.ensures.amended).step
+returns g c = (transaction_amended (lawful c.args.self.now g.P.OpenPhase.two_phases) c.args.«record» c.args.tenths c.amend.result _ c.amend.new.totals c.amend.ensures.amended).step

@@ -14,28 +14,28 @@ use Rattle.hours.proofs.hour.Hour.post_area.Goals.{In_ok-first}
 
 pub returns-in_err-weigh_members : goal.returns-in_err-weigh_members
 returns-in_err-weigh_members g c =
-    let h = lawful c.args.self.now g.P.OpenPhase.few in
+    let h = lawful c.args.self.now g.P.OpenPhase.two_phases in
     let q = c.in_err-weigh_members.ensures in
     let e = err_from_is_err_and c.from_residual.result c.from_residual.ensures.1 in
     rw (e.1, e.2, q.0) (area_no_bus (opened h) _ q.1.0 q.1.1 q.1.2)
 
 pub returns-in_err-weigh_participant : goal.returns-in_err-weigh_participant
 returns-in_err-weigh_participant g c =
-    let h = lawful c.args.self.now g.P.OpenPhase.few in
+    let h = lawful c.args.self.now g.P.OpenPhase.two_phases in
     let q = c.in_err-weigh_participant.ensures in
     let e = err_from_is_err_and c.from_residual-in_err-weigh_participant.result c.from_residual-in_err-weigh_participant.ensures.1 in
     rw (e.1, e.2, q.0) (area_no_participant (opened h) _ c.in_ok-weigh_members.ensures q.1)
 
 pub returns-in_err-totals : goal.returns-in_err-totals
 returns-in_err-totals g c =
-    let h = lawful c.args.self.now g.P.OpenPhase.few in
+    let h = lawful c.args.self.now g.P.OpenPhase.two_phases in
     let e = err_from_is_err_and c.from_residual-in_err-totals.result c.from_residual-in_err-totals.ensures.1 in
     rw (e.1, e.2) (area_over h _ c.in_ok-weigh_members.ensures c.in_ok-weigh_participant.ensures _ c.in_err-totals.ensures)
 
 -- what the areas' own call refused
 pub returns-in_err-first : goal.returns-in_err-first
 returns-in_err-first g c =
-    let h = lawful c.args.self.now g.P.OpenPhase.few in
+    let h = lawful c.args.self.now g.P.OpenPhase.two_phases in
     let q = c.in_err-first.ensures in
     let e = err_from_is_err_and c.from_residual-in_err-first.result c.from_residual-in_err-first.ensures.1 in
     rw (e.1, e.2) (area_unposted h _ c.in_ok-weigh_members.ensures c.in_ok-weigh_participant.ensures c.in_ok-totals.totals c.in_ok-totals.ensures _ _ q.answer q.posted)
@@ -43,7 +43,7 @@ returns-in_err-first g c =
 -- the step that is taken
 made : (g : given.Over) (c : In_ok-first g) → Made (register_of c.args.self.now) (spreading c.args.participant c.args.tenths c.args.members.now) (Ok (RecordNumber c.in_ok-first.first)) g.P.OpenPhase.closings c.args.self.now.buses c.in_ok-totals.totals (book c.post_area.new.ledger) (book c.args.self.now.transactions)
 made g c =
-    let h = lawful c.args.self.now g.P.OpenPhase.few in
+    let h = lawful c.args.self.now g.P.OpenPhase.two_phases in
     let q = c.in_ok-first.ensures in
     area_made h _ c.in_ok-weigh_members.ensures c.in_ok-weigh_participant.ensures c.in_ok-totals.totals c.in_ok-totals.ensures _ _ q.answer q.posted.0 q.posted.1
 
