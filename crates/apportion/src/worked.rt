@@ -1,5 +1,5 @@
 // Splits and carried cents worked out by hand.
-ghost use Rattle.std.specs.Prelude.{◌≡◌, [], ◌∷◌, map, pos, negsuc, MatchResult};
+ghost use Rattle.std.specs.Prelude.{◌≡◌, [], ◌∷◌, map, pos, negsuc, MatchResult, ◌<◌, ◌≤◌, replicate};
 ghost use Rattle.quantities.specs.Views.{cents, megawatts};
 ghost use Rattle.apportion.specs.Split.{shares};
 ghost use Rattle.apportion.specs.Worked.{WorkedRows, WorkedSplitsDefined};
@@ -27,28 +27,21 @@ pub fn worked_splits() -> Result<WorkedSplits, Cause>
     ensures defined { WorkedSplitsDefined }
 {
     Ok(WorkedSplits {
-        hundred: over_three(Cents(100))?,
-        hundred_below_nought: over_three(Cents(-100))?,
-        six: over_four(Cents(6))?,
+        hundred: over_equal(Cents(100))?,
+        hundred_below_nought: over_equal(Cents(-100))?,
+        six: over_equal(Cents(6))?,
         area: over_members(Megawatts(10))?,
     })
 }
 
-// An amount over three equal weights.
-fn over_three(amount: Cents) -> Result<[Cents; 3], Cause>
-    ensures { MatchResult result (λ row. cents row ≡ shares amount.0 (1 ∷ 1 ∷ 1 ∷ [])) (λ _. ⊥) }
+// An amount over N equal weights.
+fn over_equal<const N: usize>(amount: Cents) -> Result<[Cents; N], Cause>
+    requires some { 0 < N }
+    requires few { N ≤ 4 }
+    ensures { MatchResult result (λ row. cents row ≡ shares amount.0 (replicate N 1)) (λ _. ⊥) }
 {
-    let mut row = [Cents(0); 3];
-    split(amount, &[LoadBus { bus: 0, weight: 1 }; 3], &mut row)?;
-    Ok(row)
-}
-
-// An amount over four equal weights.
-fn over_four(amount: Cents) -> Result<[Cents; 4], Cause>
-    ensures { MatchResult result (λ row. cents row ≡ shares amount.0 (1 ∷ 1 ∷ 1 ∷ 1 ∷ [])) (λ _. ⊥) }
-{
-    let mut row = [Cents(0); 4];
-    split(amount, &[LoadBus { bus: 0, weight: 1 }; 4], &mut row)?;
+    let mut row = [Cents(0); N];
+    split(amount, &[LoadBus { bus: 0, weight: 1 }; N], &mut row)?;
     Ok(row)
 }
 
