@@ -30,7 +30,8 @@ pub struct CongestionPrice(pub i64);
 #[derive(Clone, Copy, PartialEq, Eq, Debug)]
 pub struct Flow(pub i64);
 
-// An impl for each unit, since a unit is a struct of its own: with one `Amount<Unit>`, `Cents(5)` would be `Amount::<Cent>::new(5)`.
+// An impl for each unit, since a rule of the project asks for a struct around each: with one `Amount<Unit>`, `Cents(5)` would be
+// `Amount::<Cent>::new(5)`, and the gate refuses impls that a macro of the repository writes.
 impl Quantity for Megawatts {
     ghost units = { λ x. x.0 };
 

@@ -11,7 +11,7 @@ pub enum Layer {
 }
 
 impl Layer {
-    // The number of the layer in a refusal line.
+    // The number of the layer in a refusal line. A method, as of a cause.
     pub fn number(self) -> u8
         ensures { result ≡ layer_number self }
     {

@@ -9,7 +9,7 @@ use refusals::Cause;
 const MOST: u64 = 1_000_000;
 
 // In tenths of a megawatt.
-#[derive(Clone, Copy)]
+#[derive(Clone, Copy, Default)]
 pub struct Totals {
     pub withdrawing: u64,
     pub injecting: u64,
@@ -20,11 +20,7 @@ impl Totals {
     pub fn none() -> Totals
         ensures { result ≡ record { withdrawing = 0; injecting = 0; transacting = 0 } }
     {
-        Totals {
-            withdrawing: 0,
-            injecting: 0,
-            transacting: 0,
-        }
+        Totals::default()
     }
 
     fn of(self, side: Side) -> u64

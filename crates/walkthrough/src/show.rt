@@ -8,7 +8,7 @@ pub(crate) fn say(rt: &HostRuntime, text: &str) -> io::Result<()> {
     println!(rt; "{text}")
 }
 
-// A number with its unit, whose name is a word of this program: with a `Display` for each kind there would be six twins.
+// A number with its unit, whose name is a word of this program: with a `Display` for each kind there would be five twins.
 pub(crate) fn figure(rt: &HostRuntime, what: &str, number: i64, unit: &str) -> io::Result<()> {
     println!(rt; "   {what}: {number} {unit}")
 }

@@ -12,7 +12,7 @@ use quantities::MAX_BUSES;
 use refusals::Cause;
 
 impl Radial {
-    // Whether a network of these upper buses and constraints can be made.
+    // Whether a network of these upper buses and constraints can be made. It reads slices of the lists that `new` takes.
     pub fn weigh(uppers: &[u16], constraints: &[RadialConstraint]) -> Result<(), Cause>
         ensures { Answered (RadialRefused uppers.now constraints.now) result }
     {

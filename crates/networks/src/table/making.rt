@@ -10,7 +10,8 @@ use quantities::{Factor, MAX_BUSES, ShadowPrice};
 use refusals::Cause;
 
 impl Table {
-    // Whether a table of these buses, prices and factors can be made.
+    // Whether a table of these buses, prices and factors can be made. It reads slices of the lists that `new` takes, so no one type
+    // holds them for both.
     pub fn weigh(buses: u16, prices: &[ShadowPrice], factors: &[Factor]) -> Result<(), Cause>
         ensures { Answered (TableRefused buses prices.now factors.now) result }
     {
