@@ -31,8 +31,10 @@ impl Running {
     // Gives for one part more: the parts with it, rounded down, less those before it, rounded down.
     pub(crate) fn give(&mut self, part: i128) -> i64
         requires sum { FitsSigned w128 (self.old.exact +ℤ part) }
-        requires share { FitsSigned w64 (floor (self.old.exact +ℤ part) self.old.divisor -ℤ floor self.old.exact self.old.divisor) }
-        ensures share { result ≡ floor (self.old.exact +ℤ part) self.old.divisor -ℤ floor self.old.exact self.old.divisor }
+        requires share { FitsSigned w64 (floor (self.old.exact +ℤ part) self.old.divisor
+            -ℤ floor self.old.exact self.old.divisor) }
+        ensures share { result ≡ floor (self.old.exact +ℤ part) self.old.divisor
+            -ℤ floor self.old.exact self.old.divisor }
         ensures divisor { self.new.divisor ≡ self.old.divisor }
         ensures exact { self.new.exact ≡ self.old.exact +ℤ part }
     {

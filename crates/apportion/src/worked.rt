@@ -47,7 +47,8 @@ fn over_equal<const N: usize>(amount: Cents) -> Result<[Cents; N], Cause>
 
 // An M over shares of 33.33, 33.33 and 33.34 percent.
 fn over_members(amount: Megawatts) -> Result<[Megawatts; 3], Cause>
-    ensures { MatchResult result (λ row. megawatts row ≡ shares amount.0 (3333 ∷ 3333 ∷ 3334 ∷ [])) (λ _. ⊥) }
+    ensures { MatchResult result
+        (λ row. megawatts row ≡ shares amount.0 (3333 ∷ 3333 ∷ 3334 ∷ [])) (λ _. ⊥) }
 {
     let members = [
         AreaMember {
