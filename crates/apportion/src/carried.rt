@@ -16,6 +16,7 @@ pub fn carry(exact: &[Grains], row: &mut [Cents]) -> Result<(), Cause>
     ensures places { MatchResult result (λ _. cents row.new ≡ carried_row 10000 (grains exact.now)) (λ _. row.new ≡ row.old) }
     ensures adds { OnOk result (sum_of (λ z. z) (cents row.new) ≡ floor (sum_of (λ z. z) (grains exact.now)) 10000) }
 {
+    // one test and its cause: no plainer as a function of its own
     if row.len() != exact.len() {
         return Err(Cause::RowLength);
     }

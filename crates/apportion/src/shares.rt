@@ -27,6 +27,7 @@ pub fn split<Q: Quantity, I: WeightedItem>(
     ensures fair { OnOk result (Fair (Q.Quantity.units amount) (length items.now) (atℕ (map I.WeightedItem.weighs items.now)) (at (map Q.Quantity.units row.new))) }
     ensures toward { OnOk result (((i : ℕ) → i < length items.now → Toward (Q.Quantity.units amount) (at (map Q.Quantity.units row.new) i))) }
 {
+    // one test and its cause: no plainer as a function of its own
     if row.len() != items.len() {
         return Err(Cause::RowLength);
     }

@@ -34,6 +34,7 @@ pub fn replay(
         (λ _. answers.new ≡ answers.old) }
     ensures fixed { OneRun }
 {
+    // one test and its cause: no plainer as a function of its own
     if answers.len() != calls.len() {
         return Err(Cause::RowLength);
     }
@@ -63,6 +64,7 @@ pub fn run_calls<P: OpenPhase>(
         calls.now answers.old at answers.new (register_of hour.new))
         (λ _. (answers.new ≡ answers.old) × (register_of hour.new ≡ register_of hour.old)) }
 {
+    // one test and its cause: no plainer as a function of its own
     if answers.len() != calls.len() {
         return Err(Cause::RowLength);
     }

@@ -24,6 +24,7 @@ pub struct DayAheadPhase;
 // After the first closing.
 pub struct RealTimePhase;
 
+// An impl for each phase: they differ in all that they say.
 impl OpenPhase for DayAheadPhase {
     ghost closings = { 0 };
 

@@ -16,6 +16,7 @@ impl Radial {
     pub fn weigh(uppers: &[u16], constraints: &[RadialConstraint]) -> Result<(), Cause>
         ensures { Answered (RadialRefused uppers.now constraints.now) result }
     {
+        // one test and its cause, as in the other make
         if !within_limits(uppers, constraints) {
             return Err(Cause::OutsideLimits);
         }

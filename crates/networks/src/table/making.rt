@@ -15,6 +15,7 @@ impl Table {
     pub fn weigh(buses: u16, prices: &[ShadowPrice], factors: &[Factor]) -> Result<(), Cause>
         ensures { Answered (TableRefused buses prices.now factors.now) result }
     {
+        // one test and its cause, as in the other make
         if !within_limits(buses, prices, factors) {
             return Err(Cause::OutsideLimits);
         }
