@@ -37,7 +37,7 @@ pub fn worked_splits() -> Result<WorkedSplits, Cause>
 // An amount over N equal weights.
 fn over_equal<const N: usize>(amount: Cents) -> Result<[Cents; N], Cause>
     requires some { 0 < N }
-    requires few { N ≤ 4 }
+    requires most { N ≤ 2000000000 }
     ensures { MatchResult result (λ row. cents row ≡ shares amount.0 (replicate N 1)) (λ _. ⊥) }
 {
     let mut row = [Cents(0); N];

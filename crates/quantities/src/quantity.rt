@@ -13,7 +13,8 @@ pub trait Quantity: Copy {
     fn from_units(count: i64) -> Self
         ensures { units result ≡ count };
 
-    // The sum, or None where it does not fit 64 bits. By `?`, since `map(Self::from_units)`, whose result is `Self`, is not covered.
+    // The sum, or None where it does not fit 64 bits. By `?`, since the borrow checker does not
+    // cover a `map` with a function whose result is `Self`.
     fn checked_add(self, other: Self) -> Option<Self>
         ensures { Exact units result (units self +ℤ units other) }
     {

@@ -4,7 +4,7 @@ ghost use Rattle.quantities.specs.Sums.{sum_of};
 
 use crate::quantity::Quantity;
 
-// The sum of a row, or None where it does not fit 64 bits. Not by `map`, as in `checked_add`.
+// The sum of a row, or None where it does not fit 64 bits. Not by `map`, for the reason that stands at `checked_add`.
 pub fn total<Q: Quantity>(row: &[Q]) -> Option<Q>
     ensures { Exact Q.Quantity.units result (sum_of Q.Quantity.units row.now) }
 {

@@ -13,8 +13,8 @@ use refusals::Cause;
 use register::{DayAheadPhase, Totals};
 use std::marker::PhantomData;
 
-// Whether an hour may be made: the first step of making one. It reads the slices
-// that the second borrows for good, so one struct could not hold them for both.
+// Whether an hour may be made: the first step of making one. It reads the slices that the second borrows for good, so one struct
+// could not hold them for both.
 pub fn weigh_making(
     buses: u16,
     positions: &[BusPosition],

@@ -15,7 +15,7 @@ returns-in_err-split g c =
     let n = g.row.N in
     let ones = map-replicate (λ (x : LoadBus). x.weight) bus n in
     let all : whole (map (λ (x : LoadBus). x.weight) (replicate n bus)) ≡ n = ap whole ones ∙ whole_ones n in
-    absurd (split_never _ _ (length-replicate n _ ∙ sym (length-map (replicate n bus) _ ∙ length-replicate n bus)) (omega (arith, c.requires.some)) (omega (arith, c.requires.few)) c.in_err-split.ensures.answer)
+    absurd (split_never _ _ (length-replicate n _ ∙ sym (length-map (replicate n bus) _ ∙ length-replicate n bus)) (omega (arith, c.requires.some)) (omega (arith, c.requires.most)) c.in_err-split.ensures.answer)
 
 pub returns : goal.returns
 returns g c = c.in_ok-split.ensures.places ∙ ap (shares c.args.amount.0) (map-replicate (λ (x : LoadBus). x.weight) bus g.row.N)
