@@ -1,9 +1,6 @@
 -- What a run of `chunks_exact` says of the rows of n elements. Assumes nothing.
-use Rattle.std.proofs.Common.{◌≡◌, ℕ, suc, ◌+◌, ◌*◌, ◌/◌, ◌<◌, ◌≤◌, true, IsTrue, MatchOption, unwrap_or, List, [], length, take, drop, Some, None, Option, ⊎_elim, sym, ◌∙◌, mul-le-mul_right, subst, arith}
-use Rattle.std.proofs.Math.Nat.{mul-div_cancel}
-use Rattle.std.proofs.Math.Seq.{take-nil}
+use Rattle.std.proofs.Common.{◌≡◌, ℕ, suc, ◌*◌, ◌/◌, ◌<◌, true, List, length, take, drop, Some, Option, ⊎_elim, sym, ◌∙◌, subst, arith}
 use Rattle.std.proofs.lemmas.Nat.{le-div}
-use Rattle.std.proofs.lemmas.List.{drop_all}
 use Rattle.std.proofs.lemmas.Option.{slice_get_cases}
 use Rattle.std.specs.Iterator.Runs.{Run, IsChunksExactRun, AllItems, AnyItem, YieldsRun}
 use denote.Ref.{Bor}
@@ -30,12 +27,3 @@ module _ {S A : Type 0} {steps : S → Option (Bor (List A)) → S → Type 0} (
       let row = rw found.1 at (chunks.2 j) in
       let fails = rw found.1 at item.2 in
       fails (subst P (sym row.2.0) (each j (le-div (suc j) (length xs) n pos (omega (arith, row.1)))))
-
-  -- what `nth` gives of whole rows, or nothing past the last
-  pub nth_row : 0 < n → IsChunksExactRun p n xs → (m k : ℕ) → length xs ≡ m * n → (r : Option (Bor (List A))) (d : Bor (List A)) → d.now ≡ [] → MatchOption r (IsTrue p.whole × (p.len ≤ k)) (λ x. (p.len ≡ k + 1) × (p.at k ≡ Some x)) → (unwrap_or r d).now ≡ take n (drop (k * n) xs)
-  nth_row pos chunks m k whole None d e past =
-      let rows : p.len ≡ m = rw (whole, mul-div_cancel m pos) at (chunks.1 past.0) in
-      let past_all : m ≤ k = omega (arith, past.1) in
-      let after = mul-le-mul_right n past_all in
-      e ∙ sym (rw (drop_all (k * n) xs (omega arith)) (take-nil n))
-  nth_row pos chunks m k whole (Some x) d e found = (rw found.1 at (chunks.2 k)).2.0

@@ -1,5 +1,5 @@
 -- The laws of descent, and the path of upper buses followed step by step. Assumes nothing.
-use Rattle.std.specs.Prelude.{ℕ, zero, suc, ◌-◌, ◌<◌, ◌≤◌, List, length, IsTrue, ◌↔◌, ◌==◌}
+use Rattle.std.specs.Prelude.{◌≡◌, ℕ, zero, suc, ◌-◌, ◌<◌, ◌≤◌, List, length, IsTrue, ◌↔◌, ◌==◌}
 use Rattle.std.proofs.Math.Logic.{inl, inr}
 use Rattle.std.proofs.Common.{⊎_elim, sym, subst, arith}
 use Rattle.std.proofs.lemmas.List.{get_or_past}
@@ -36,3 +36,8 @@ module _ (up : ℕ → ℕ) (smaller : (i : ℕ) → 0 < i → up i < i) (b : �
         rw (lt-ltb b i l) (λ t. from i (omega arith) (d.0 t), λ p. d.1 (under_upper p l))
     | inr g ↦ rw (le-ltb b i g) (under_end i g)
   ]
+
+-- of the same tree and the same bus
+pub under_same : (us vs : List ℕ) (b d : ℕ) {i : ℕ} → vs ≡ us → d ≡ b → Under (upper vs) d i → Under (upper us) b i
+under_same us vs b d {i} e f p =
+    subst (λ (x : ℕ). Under (upper us) x i) f (subst (λ (xs : List ℕ). Under (upper xs) d i) e p)

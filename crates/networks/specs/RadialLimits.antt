@@ -1,8 +1,8 @@
 -- A radial network is refused where it is outside the limits; what it means, by the relation of descent; and its limits. Assumes nothing.
-use Rattle.std.specs.Prelude.{◌≡◌, ℕ, suc, ◌+◌, ◌<◌, ◌≤◌, ◌⊎◌, List, length, ℤ, pos, negsuc, nat_lt, unsigned_abs, refl}
-use Rattle.std.proofs.Common.{Bool, IsTrue, ◌↔◌, if◌then◌else◌, inr, ⊎_elim, ap, arith, rules}
+use Rattle.std.specs.Prelude.{◌≡◌, ℕ, suc, ◌+◌, ◌<◌, ◌≤◌, ◌⊎◌, List, length, get_or, ℤ, pos, negsuc, nat_lt, slice_index_or, unsigned_abs, refl}
+use Rattle.std.proofs.Common.{Bool, IsTrue, ◌↔◌, if◌then◌else◌, inr, ⊎_elim, ap, ◌∙◌, arith, rules}
 use Rattle.std.proofs.lemmas.Int.{ints}
-use Rattle.std.proofs.lemmas.List.{get_or_past}
+use Rattle.std.proofs.lemmas.List.{get_or_past, get_or_read}
 use Rattle.std.proofs.lemmas.Bool.Decides.{same_from_decides}
 use Rattle.std.proofs.lemmas.Bool.{cases_lt, cases_Bool, lt-ltb, le-ltb, and_right, cond-false}
 use Rattle.refusals.specs.declared.Cause.{Cause}
@@ -21,7 +21,7 @@ use Rattle.networks.specs.DescentLaws.{upper_smaller, reaches_under}
 -- ---- refused or within
 
 module _ (us : List ℕ) (cs : List RadialConstraint) where
-  decided : RadialRefused us cs OutsideLimits ⊎ RadialWithin us cs
+  pub decided : RadialRefused us cs OutsideLimits ⊎ RadialWithin us cs
   decided =
       and_then (or_at_most (length us + 1) most_buses buses_over) (λ b.
       and_then (or_each _ (length us) (λ k h. or_at_most (atℕ us k) k (λ l. upper_not_smaller k h (omega (arith, l))))) (λ f.
@@ -33,8 +33,17 @@ module _ (us : List ℕ) (cs : List RadialConstraint) where
       inr (r, d, p)))))) (λ e.
       inr (record { buses = b; falling = f; constraints = c; each = e })))))
 
+  -- what is within the limits is not refused
+  pub within_clear : RadialWithin us cs → Clear (RadialRefused us cs)
+  within_clear w c (buses_over l) = omega (arith, w.buses)
+  within_clear w c (upper_not_smaller i h l) = omega (arith, w.falling i h)
+  within_clear w c (constraints_over l) = omega (arith, w.constraints)
+  within_clear w c (at_root j h e) = omega (arith, (w.each j h).0)
+  within_clear w c (bus_beyond j h l) = omega (arith, (w.each j h).1)
+  within_clear w c (price_over j h l) = omega (arith, (w.each j h).2)
+
   -- there is one cause
-  least : (d : Cause) → RadialRefused us cs d → 13 ≤ number d
+  pub least : (d : Cause) → RadialRefused us cs d → 13 ≤ number d
   least d r = search rules
 
   pub refused : ¬ RadialWithin us cs → First (RadialRefused us cs) OutsideLimits
@@ -88,3 +97,8 @@ module _ (us : List ℕ) (cs : List RadialConstraint) (falling : Falling us) whe
     beyond_constraints = told_beyond_constraints;
     beyond_buses = told_beyond_buses;
   }
+
+-- the bus of the constraint that is read at j
+pub bus_read : (cs : List RadialConstraint) (j k : ℕ) (c : RadialConstraint) → k ≡ j → j < length cs → c ≡ slice_index_or cs k c → c.bus ≡ constraint_bus cs j
+bus_read cs j k c e h r =
+    ap (λ (x : RadialConstraint). x.bus) (get_or_read cs j c h (r ∙ ap (λ i. get_or cs i c) e) (record { bus = 0; price = record { 0 = pos 0 } }))

@@ -1,6 +1,6 @@
 -- A table is refused where it is outside the limits, and what is within them keeps to the limits of a network. Assumes nothing.
 use Rattle.std.specs.Prelude.{◌≡◌, ℕ, ◌+◌, ◌*◌, ◌<◌, ◌≤◌, ◌⊎◌, List, length, drop, ℤ, pos, ◌-ℤ◌, unsigned_abs, refl}
-use Rattle.std.proofs.Common.{inl, inr, ⊎_elim, ap, sym, ◌∙◌, mul-le-mul_right, suc-mul, arith, rules}
+use Rattle.std.proofs.Common.{inl, inr, ⊎_elim, ap, ◌∙◌, mul-le-mul_right, suc-mul, arith, rules}
 use Rattle.std.proofs.lemmas.Int.{ints}
 use Rattle.std.proofs.lemmas.List.{get_or_past, get_or-take, get_or-drop, length-take, length-take-le, length-drop}
 use Rattle.std.proofs.lemmas.Bool.{cases_lt, cases_eq, lt-ltb, le-ltb, and_right, cond-false}
@@ -51,7 +51,7 @@ module _ (n : ℕ) (ps : List ShadowPrice) (fs : List Factor) where
       let in_row = row_short n fs j in
       rw (row_apart j i k (in_row i b) (in_row k c)) (h j a i (in_row i b) k (in_row k c))
 
-  decided : TableRefused n ps fs OutsideLimits ⊎ TableWithin n ps fs
+  pub decided : TableRefused n ps fs OutsideLimits ⊎ TableWithin n ps fs
   decided =
       and_then (or_at_most 1 n (λ l. no_bus (omega arith))) (λ a.
       and_then (or_at_most n most_buses buses_over) (λ b.
@@ -81,7 +81,7 @@ module _ (n : ℕ) (ps : List ShadowPrice) (fs : List Factor) where
   within_clear w c (spread_over j i k h a b l) = omega (arith, spread_kept w j i k h a b)
 
   -- there is one cause
-  least : (d : Cause) → TableRefused n ps fs d → 13 ≤ number d
+  pub least : (d : Cause) → TableRefused n ps fs d → 13 ≤ number d
   least d r = search rules
 
   pub refused : ¬ TableWithin n ps fs → First (TableRefused n ps fs) OutsideLimits
@@ -115,17 +115,6 @@ module _ (n : ℕ) (ps : List ShadowPrice) (fs : List Factor) where
       (λ a. ⊎_elim (λ b. inr (a, b, rw (lt-ltb j (length ps) a, lt-ltb i n b) refl)) (λ b. inl (beyond_buses j i b)) (cases_lt i n))
       (λ a. inl (beyond_constraints j i a))
       (cases_lt j (length ps))
-
-  -- what stands at i in the row of j
-  pub told_read : length fs ≡ length ps * n → (j i : ℕ) → factor_at (factor_row n fs j) i ≡ told j i
-  told_read whole j i =
-      ⊎_elim
-      (λ b. row_at n fs j i b ∙ ⊎_elim
-      (λ a. sym (rw (lt-ltb j (length ps) a, lt-ltb i n b) refl))
-      (λ a. let past = mul-le-mul_right n a in ap (λ (f : Factor). f.0) (get_or_past fs (j * n + i) (record { 0 = pos 0 }) (omega arith)) ∙ sym (beyond_constraints j i a))
-      (cases_lt j (length ps)))
-      (λ b. let short = length-take n (drop (j * n) fs) in ap (λ (f : Factor). f.0) (get_or_past (factor_row n fs j) i (record { 0 = pos 0 }) (omega arith)) ∙ sym (beyond_buses j i b))
-      (cases_lt i n)
 
   pub factor_most : length fs ≡ length ps * n → FactorsWithin fs → (j i : ℕ) → unsigned_abs (told j i) ≤ most_factor
   factor_most whole within j i =

@@ -65,12 +65,10 @@ impl Network for Table {
     }
 
     fn factor(&self, constraint: u8, bus: u16) -> Factor {
-        self.factors
-            .chunks_exact(usize::from(self.buses))
-            .nth(usize::from(constraint))
-            .unwrap_or(&[])
-            .get(usize::from(bus))
-            .copied()
-            .unwrap_or(Factor(0))
+        if bus >= self.buses {
+            return Factor(0);
+        }
+        let place = usize::from(constraint) * usize::from(self.buses) + usize::from(bus);
+        self.factors.get(place).copied().unwrap_or(Factor(0))
     }
 }
