@@ -1,9 +1,12 @@
 -- Which number names which class. Assumes nothing.
-use Rattle.std.proofs.Common.{◌≡◌, ◌⊎◌, ⊎_elim, ℕ, refl, subst}
+use Rattle.std.proofs.Common.{◌≡◌, ◌⊎◌, ⊎_elim, ℕ, Ok, Err, Result, refl, subst}
 use Rattle.positions.specs.Classes.{class_number}
 use Rattle.positions.specs.declared.classes.Class.{Class}
 use Rattle.positions.specs.declared.classes.Class.TheVariants.{Load, DecrementBid, Generation, IncrementOffer}
 use Rattle.register.specs.Register.{Phase, day_ahead, Names, load, decrement, generation, increment}
+use Rattle.register.specs.Weighed.{ClassNamed, ClassTaken}
+use Rattle.refusals.specs.declared.Cause.{Cause}
+use Rattle.std.specs.Result.{result_ok}
 
 -- a class is named by its number alone
 pub number_named : {p : Phase} {k : ℕ} {c : Class} → Names p k c → class_number c ≡ k
@@ -31,3 +34,8 @@ one_name load load = refl
 one_name decrement decrement = refl
 one_name generation generation = refl
 one_name increment increment = refl
+
+-- what a number names, with its cause let go
+pub named_of_taken : (p : Phase) (k : ℕ) (r : Result Class Cause) → ClassTaken p k r → ClassNamed p k (result_ok r)
+named_of_taken p k (Ok c) taken = taken
+named_of_taken p k (Err e) taken = taken.1

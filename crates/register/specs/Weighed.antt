@@ -1,5 +1,5 @@
 -- What is weighed before a step: buses, participants, classes, the limits of an hour, a closing. Assumes nothing.
-use Rattle.std.specs.Prelude.{◌≡◌, ℕ, ◌<◌, ◌≤◌, Ok, Err, Result}
+use Rattle.std.specs.Prelude.{◌≡◌, ℕ, ◌<◌, ◌≤◌, Some, None, Option, Ok, Err, Result}
 use Rattle.refusals.specs.Answers.{Clear}
 use Rattle.refusals.specs.declared.Cause.{Cause}
 use Rattle.refusals.specs.declared.Cause.TheVariants.{BusOutOfRange, ParticipantOutOfRange, ClassNotTaken, OutsideLimits}
@@ -8,10 +8,15 @@ use Rattle.ledgers.specs.Limits.{most_records}
 use Rattle.positions.specs.declared.classes.Class.{Class}
 use Rattle.register.specs.Register.{Register, Phase, Names, Holds, Step, close}
 
--- the class that a number names in a phase, or that it names none
-abbrev pub ClassNamed : Phase → ℕ → Result Class Cause → Type 0
-ClassNamed p k (Ok c) = Names p k c
-ClassNamed p k (Err e) = (e ≡ ClassNotTaken) × ((c : Class) → Names p k c → ⊥)
+-- the class that a number names in a phase, if any
+abbrev pub ClassNamed : Phase → ℕ → Option Class → Type 0
+ClassNamed p k (Some c) = Names p k c
+ClassNamed p k None = (c : Class) → Names p k c → ⊥
+
+-- the same, with the cause where it names none
+abbrev pub ClassTaken : Phase → ℕ → Result Class Cause → Type 0
+ClassTaken p k (Ok c) = Names p k c
+ClassTaken p k (Err e) = (e ≡ ClassNotTaken) × ((c : Class) → Names p k c → ⊥)
 
 -- whether a bus is one of n, and whether there is a participant of that number
 abbrev pub BusWeighed : ℕ → ℕ → Result (Unit {0}) Cause → Type 0

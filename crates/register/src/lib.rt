@@ -8,6 +8,6 @@ mod phases;
 mod totals;
 
 pub use answers::{Accepted, Answer};
-pub use classes::class_named;
+pub use classes::{class_named, class_taken};
 pub use phases::{DayAheadPhase, OpenPhase, RealTimePhase};
 pub use totals::Totals;

@@ -2,8 +2,8 @@
 ghost use Rattle.std.specs.Prelude.{◌≡◌, ◌==◌, ℕ, ◌<◌, Bool, true, false, refl};
 ghost use Rattle.std.proofs.Common.{lit≤};
 
-// A phase that takes calls.
-pub trait OpenPhase {
+// A phase that takes calls. It is Send and Sync, so that an hour with any phase open is.
+pub trait OpenPhase: Send + Sync {
     // the number of closings before it opens
     ghost closings: { ℕ };
 

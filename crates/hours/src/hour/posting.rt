@@ -9,7 +9,7 @@ use apportion::AreaMember;
 use areas::{post_area, weigh_members};
 use positions::{BusPosition, Position, Side, Transaction};
 use refusals::Cause;
-use register::{OpenPhase, class_named};
+use register::{OpenPhase, class_taken};
 
 // The calls take what a line of an hour names, one by one. As one value, a call is a `Call` of call_lists.
 
@@ -30,7 +30,7 @@ impl<'a, P: OpenPhase> Hour<'a, P> {
     {
         self.weigh_bus(bus)?;
         weigh_participant(participant)?;
-        let class = class_named::<P>(class)?;
+        let class = class_taken::<P>(class)?;
         let totals = self.totals.amended(class.side(), 0, tenths)?;
         let number = self
             .positions
