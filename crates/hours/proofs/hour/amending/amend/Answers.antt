@@ -9,12 +9,12 @@ use Rattle.hours.proofs.hour.amending.amend.Goals.{In_ok-old}
 
 -- the record of that number is open
 found : (g : given.Over) (c : In_ok-old g) → OpenAt (book c.args.ledger.now) c.args.record (Some c.in_ok-old.old)
-found g c = rw c.in_ok-old.ensures.ok_part at c.open_at.ensures
+found g c = rw c.in_ok-old.ensures.ok_part at c.requires
 
 pub returns-in_err-old-clause-amended : goal.returns-in_err-old-clause-amended
 returns-in_err-old-clause-amended g c =
     let h = c.in_err-old.ensures in
-    let none = rw h.ok_part at c.open_at.ensures in
+    let none = rw h.ok_part at c.requires in
     let value = rw h.ok_part at h.value in
     let same : c.in_err-old.field-0.0 ≡ RecordNotOpen = cc in
     let e = err_from_is_err_and c.from_residual.result c.from_residual.ensures.1 in
