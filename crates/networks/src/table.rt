@@ -68,6 +68,7 @@ impl Network for Table {
         if bus >= self.buses {
             return Factor(0);
         }
+        // past the last constraint the place is past the end of the list, too
         let place = usize::from(constraint) * usize::from(self.buses) + usize::from(bus);
         self.factors.get(place).copied().unwrap_or(Factor(0))
     }

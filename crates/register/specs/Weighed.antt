@@ -15,8 +15,8 @@ ClassNamed p k None = (c : Class) → Names p k c → ⊥
 
 -- the same, with the cause where it names none
 abbrev pub ClassTaken : Phase → ℕ → Result Class Cause → Type 0
-ClassTaken p k (Ok c) = Names p k c
-ClassTaken p k (Err e) = (e ≡ ClassNotTaken) × ((c : Class) → Names p k c → ⊥)
+ClassTaken p k (Ok c) = ClassNamed p k (Some c)
+ClassTaken p k (Err e) = (e ≡ ClassNotTaken) × ClassNamed p k None
 
 -- whether a bus is one of n, and whether there is a participant of that number
 abbrev pub BusWeighed : ℕ → ℕ → Result (Unit {0}) Cause → Type 0
